@@ -15,6 +15,34 @@ COLUMNS = ("code", "name", "votes", "chair", "chair_name", "suspended")
 TRAPPED = "the library came to a point that its proof rules out: the compiler or the machine is at fault"
 LARGE = {2**40: "2^40", 2**48: "2^48"}
 
+# How the measures are named in a sentence.
+MEASURES = {
+    "share": "share of power",
+    "banzhaf": "Banzhaf measure",
+    "prevent": "power to prevent action",
+    "initiate": "power to initiate action",
+    "swings": "number of swings",
+}
+# The sentences on who has most and who gains most, by their names; what they speak of stands in {braces}.
+FINDINGS = {
+    "none_wins": "{at} no coalition wins: the open chairs cast {cast} of {total} votes.",
+    "none_before": "{at} no coalition wins in the base, so nothing can be compared.",
+    "most_one": "{at}, chair {chairs} has the largest {measure}: {value}{votes}.",
+    "most_several": "{at}, chairs {chairs} have the largest {measure}, each the same: {value}.",
+    "votes": " with {share} of the votes",
+    "gains": "{at}, in {measure}: {gain}; {loss}.{opened}",
+    "gain_one": "chair {chairs} gains most, {change}",
+    "gain_several": "chairs {chairs} gain most, {change} each",
+    "gain_none": "no chair gains",
+    "loss_one": "chair {chairs} loses most, {change}",
+    "loss_several": "chairs {chairs} lose most, {change} each",
+    "loss_none": "no chair loses",
+    "new": " Chair {chair} is new: {value}.",
+    "closed": " Chair {chair} is closed; in the base it had {value}.",
+    "tiny": "less than {change}",
+    "points": "{change} percentage points",
+}
+
 
 @dataclass(frozen=True)
 class Majority:

@@ -6,7 +6,7 @@ import re
 from collections.abc import Iterable, Mapping
 from string import Template
 
-from facts import COLUMNS, TRAPPED, Facts, Majority, Refusal
+from facts import COLUMNS, FINDINGS, MEASURES, TRAPPED, Facts, Majority, Refusal
 
 MADE = "Made by tools/made from the sources: do not edit."
 TRAPPED_NUMBER = 255
@@ -104,6 +104,16 @@ COLUMNS = ($columns)
 ALLOWED: dict[str, str] = {
 $allowed
 }
+
+#: How the measures are named in a sentence.
+MEASURES: dict[str, str] = {
+$measures
+}
+
+#: The sentences on who has most and who gains most.
+FINDINGS: dict[str, str] = {
+$findings
+}
 '''
 
 
@@ -122,6 +132,8 @@ def python(it: Facts) -> str:
         refusals=(f"    {why.number}: ({quoted(why.name)}, {quoted(why.reason)})," for why in it.refusals),
         numbers=(f"{name} = {number}" for name, number in numbers(it).items()),
         allowed=rows('    "{key}": {text},', it.said("None", "True", "False")),
+        measures=rows('    "{key}": {text},', MEASURES),
+        findings=rows('    "{key}": {text},', FINDINGS),
     )
 
 
@@ -211,6 +223,16 @@ $majorities
 export const SOURCES: readonly string[] = [
 $sources
 ];
+
+/** How the measures are named in a sentence. */
+export const MEASURE_NAMES = {
+$measures
+} as const;
+
+/** The sentences on who has most and who gains most; what they speak of stands in braces. */
+export const FINDINGS = {
+$findings
+} as const;
 """
 
 
@@ -221,6 +243,8 @@ def page(it: Facts) -> str:
         it,
         majorities=map(page_majority, it.majorities),
         sources=(f"  {json.dumps(source, ensure_ascii=False)}," for source in it.bibliography),
+        measures=rows("  {key}: {text},", MEASURES),
+        findings=rows("  {key}: {text},", FINDINGS),
     )
 
 

@@ -1,7 +1,7 @@
 /** Votes asked for in per cent, from what the register says of its members. */
 import { MEMBER_VOTES } from "../../bindings/javascript/src/names";
 import type { Register } from "../../bindings/javascript/src/register";
-import { decimalRatio, nearest, type Ratio } from "./fractions";
+import { decimalRatio, nearest, reduced, type Ratio } from "./fractions";
 import type { Command, Percentage } from "./study";
 
 /** The total voting power: the votes of all members that aren't suspended. */
@@ -13,14 +13,14 @@ export function totalOf(register: Register): number {
 export function shareVotes(percent: Ratio, rest: number): Ratio | null {
   const left = 100n * percent.denominator - percent.numerator;
   if (left <= 0n || rest === 0) return null;
-  return { numerator: percent.numerator * BigInt(rest), denominator: left };
+  return reduced(percent.numerator * BigInt(rest), left);
 }
 
 /** A member's votes, plus or minus per cent of them. */
 export function steppedVotes(votes: number, percent: string): Ratio {
   const size = decimalRatio(percent.replace(/^[+-]/, ""));
   const all = 100n * size.denominator + (percent.startsWith("-") ? -size.numerator : size.numerator);
-  return { numerator: all * BigInt(votes), denominator: 100n * size.denominator };
+  return reduced(all * BigInt(votes), 100n * size.denominator);
 }
 
 /** A command that gives a member votes, rounded once to whole ones, half to even; or why it can't be one. */

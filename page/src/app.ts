@@ -1,5 +1,6 @@
 /** The state of the page: a study with undo, its view, what is open in the page, and the last counts. */
 import type { Counted, Counter, Curve } from "./count";
+import { FIRST_FIGURE, type FigureChosen } from "./figureSize";
 import { History } from "./history";
 import { Cancelled } from "./pausing";
 import { Results, type Sweep } from "./results";
@@ -23,11 +24,18 @@ export interface Waiting {
   cancel(): void;
 }
 
-/** What is open and typed in the page, beside the study and its view. */
+/** A member that is carried by keyboard, and the place of the row that it aims at. */
+export interface Carried {
+  readonly code: string;
+  readonly place: string;
+}
+
+/** What is open, chosen and typed in the page, beside the study and its view. */
 export interface Open {
-  /** The cards of chairs that are open, and the text by which members are filtered. */
+  /** The rows of chairs that are open, and the text by which members are filtered. */
   readonly cards: Set<string>;
   filter: string;
+  carried: Carried | null;
   /** The fields of a sweep that isn't asked for yet. */
   sweep: SweepAsked | null;
   /** The chairs that are ticked as a coalition. */
@@ -35,6 +43,10 @@ export interface Open {
   /** Whether the table of a chart is open, and whether the page is being printed. */
   isTableOpen: boolean;
   isPrinting: boolean;
+  /** Whether the card for a first visit was closed. */
+  isWelcomed: boolean;
+  /** What was chosen for a figure last. */
+  readonly figure: FigureChosen;
 }
 
 export class App {
@@ -42,16 +54,23 @@ export class App {
   readonly counter: Counter;
   readonly results = new Results();
   readonly open: Open = {
-    cards: new Set(), filter: "", sweep: null, ticks: NO_TICKS, isTableOpen: false, isPrinting: false,
+    cards: new Set(), filter: "", carried: null, sweep: null, ticks: NO_TICKS, isTableOpen: false, isPrinting: false,
+    isWelcomed: false, figure: { ...FIRST_FIGURE },
   };
+  /** The values that each part of the page was painted with. */
+  readonly #painted = new Map<string, readonly unknown[]>();
   /** Whether the module's bytes have the hash that the build recorded. */
   readonly isOwnModule: boolean;
   view: View;
   /** The study as it was opened or saved last. */
   savedStudy: Study;
   shown: Shown | null = null;
+  /** The script of the example, or empty in a page that holds a study. */
+  example = "";
   state: State = "counting";
   fault: Error | null = null;
+  /** A sentence on something that failed beside the count of the study; empty if nothing did. */
+  trouble = "";
   waiting: Waiting | null = null;
   #run = 0;
   #counting: Promise<void> = Promise.resolve();
@@ -71,6 +90,11 @@ export class App {
     return this.history.state;
   }
 
+  /** Whether the study's table is the example. */
+  get isExample(): boolean {
+    return this.study.base.script === this.example;
+  }
+
   /** Sets another study. Studies of one gesture are one step of undo. */
   take(study: Study, gesture = ""): void {
     this.history.take(study, gesture);
@@ -81,9 +105,24 @@ export class App {
   openStudy(study: Study, view: View = this.view): void {
     this.open.cards.clear();
     this.open.sweep = null;
+    this.open.isWelcomed = true;
     this.view = view;
     this.savedStudy = study;
     this.take(study);
+  }
+
+  /** Keeps in mind that a study was saved. */
+  keepSaved(study: Study): void {
+    this.savedStudy = study;
+    this.repaint();
+  }
+
+  /** Shows a sentence on something that failed and that no other part of the page speaks of. */
+  report(why: unknown): void {
+    const words = `Something failed: ${why instanceof Error ? why.message : String(why)}`;
+    if (this.trouble === words) return;
+    this.trouble = words;
+    this.repaint();
   }
 
   /** Whether the study differs from the one that was opened or saved last. */
@@ -110,6 +149,14 @@ export class App {
 
   repaint(): void {
     this.#paint(this);
+  }
+
+  /** Paints a part of the page if one of the values that it shows is another one than last time. */
+  part(name: string, values: readonly unknown[], paint: () => void): void {
+    const before = this.#painted.get(name);
+    if (before?.length === values.length && before.every((it, at) => it === values[at])) return;
+    this.#painted.set(name, values);
+    paint();
   }
 
   /** The sweep that the study asks for, if it was counted on the board shown. */
@@ -145,7 +192,9 @@ export class App {
     this.waiting?.cancel();
     const run = (this.#run += 1);
     this.#counting = this.#count(run);
+    this.trouble = "";
     this.#rest = this.#counting.then(() => this.#countRest(run));
+    this.#rest.catch((why: unknown) => this.report(why));
     return this.#rest;
   }
 

@@ -1,6 +1,6 @@
 /** Single moves: each member is moved to each of some chairs where it isn't, and moved back. */
 import type { Register } from "../../bindings/javascript/src/register";
-import { compared, difference, type Ratio } from "./fractions";
+import { compared, difference, ZERO, type Ratio } from "./fractions";
 import type { Extreme, Orders, Progress, Tried } from "./orders";
 import { measureOf, readingsOf } from "./reading";
 
@@ -53,8 +53,6 @@ export async function triedMoves(
   }
   return tried;
 }
-
-const ZERO: Ratio = { numerator: 0n, denominator: 1n };
 
 /** The greatest change of any chair by a move, a gain or a loss. */
 export function changeOf({ most, least }: Tried): Ratio {

@@ -1,72 +1,66 @@
-/** Carrying a member to a card by keyboard: Space picks it up, arrows choose a card, Enter drops it there. */
+/** Carrying a member to a row by keyboard: Space picks it up, arrows choose a row, Enter drops it there. */
 import type { App } from "./app";
 import { byId } from "./dom";
 import { aim } from "./drag";
 import { moveTo, say } from "./moves";
 
-/** The member that is carried, and the place of the card that it aims at. */
-let held: { code: string; at: number } | null = null;
-
 function cards(): HTMLElement[] {
   return [...byId("cards").querySelectorAll<HTMLElement>(".card")];
 }
 
-function titleOf(card: HTMLElement | undefined): string {
-  return card?.querySelector(".card-title")?.textContent ?? "";
-}
-
-function pick(chip: HTMLElement): void {
-  const card = chip.closest<HTMLElement>(".card");
-  held = { code: chip.dataset["code"] ?? "", at: Math.max(0, cards().findIndex((it) => it === card)) };
-  chip.setAttribute("aria-pressed", "true");
+/** Has a member carried, with the row at which it aims; or none. */
+function carry(app: App, code: string, card: HTMLElement | null): void {
+  app.open.carried = card ? { code, place: card.dataset["place"] ?? "" } : null;
   aim(card);
-  say(`${held.code} is picked up. Arrow keys choose a chair, Enter drops it there, Escape leaves it.`);
-}
-
-function release(): void {
-  held = null;
-  aim(null);
   for (const chip of document.querySelectorAll(".chip[aria-pressed]")) chip.removeAttribute("aria-pressed");
+  if (card) byId(`chip-${code}`).setAttribute("aria-pressed", "true");
 }
 
-function leave(): void {
-  if (!held) return;
-  say(`${held.code} stays where it was.`);
-  release();
+function pick(app: App, chip: HTMLElement): void {
+  const code = chip.dataset["code"] ?? "";
+  carry(app, code, chip.closest<HTMLElement>(".card"));
+  say(`${code} is picked up. Arrow keys choose a chair, Enter drops it there, Escape leaves it.`);
 }
 
-function step(by: number): void {
-  if (!held) return;
+function leave(app: App): void {
+  if (!app.open.carried) return;
+  say(`${app.open.carried.code} stays where it was.`);
+  carry(app, "", null);
+}
+
+function step(app: App, by: number): void {
+  const { carried } = app.open;
+  if (!carried) return;
   const all = cards();
-  held.at = (held.at + by + all.length) % all.length;
-  const card = all[held.at];
-  aim(card ?? null);
-  card?.scrollIntoView({ block: "nearest" });
-  say(titleOf(card));
+  const at = all.findIndex((it) => it.dataset["place"] === carried.place);
+  const card = all[(at + by + all.length) % all.length];
+  if (!card) return;
+  carry(app, carried.code, card);
+  card.scrollIntoView({ block: "nearest" });
+  say(card.querySelector(".card-title")?.textContent ?? "");
 }
 
 function drop(app: App): void {
-  if (!held) return;
-  const { code, at } = held;
-  const place = cards()[at]?.dataset["place"];
-  release();
-  if (place) void moveTo(app, code, place);
+  const { carried } = app.open;
+  if (!carried) return;
+  carry(app, "", null);
+  void moveTo(app, carried.code, carried.place);
 }
 
 /** What a key does to a chip. */
 function actOf(app: App, chip: HTMLElement, key: string): (() => void) | undefined {
-  if (!held) return key === " " ? () => pick(chip) : undefined;
+  if (!app.open.carried) return key === " " ? () => pick(app, chip) : undefined;
   const acts: Record<string, () => void> = {
-    ArrowDown: () => step(1),
-    ArrowUp: () => step(-1),
+    ArrowDown: () => step(app, 1),
+    ArrowUp: () => step(app, -1),
     Enter: () => drop(app),
     " ": () => drop(app),
-    Escape: leave,
+    Escape: () => leave(app),
   };
   return acts[key];
 }
 
-/** Lets the members of all cards be carried by keyboard. */
+/** Lets the members of all rows be carried by keyboard. */
 export function keyboardDrag(app: App): void {
   const list = byId("cards");
   list.addEventListener("keydown", (event) => {
@@ -79,5 +73,5 @@ export function keyboardDrag(app: App): void {
   list.addEventListener("keyup", (event) => {
     if (event.key === " " && (event.target as HTMLElement).closest(".chip")) event.preventDefault();
   });
-  list.addEventListener("focusout", leave);
+  list.addEventListener("focusout", () => leave(app));
 }

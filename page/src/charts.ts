@@ -43,8 +43,9 @@ export interface Look {
   readonly title: string;
   readonly source: readonly string[];
   readonly typeface: Typeface;
-  /** Whether rows are close together, as on paper. */
+  /** Whether it is a figure for a paper or a slide, and the height that it has at most. */
   readonly isTight: boolean;
+  readonly most: number;
 }
 
 const SHAPES: Readonly<Record<Majority, SymbolType>> = {
@@ -69,6 +70,11 @@ const MOST_LABEL = 0.4;
 
 /** The paths of the majorities' dots, each made once. */
 const PATHS = new Map(MAJORITIES.map((it) => [it, symbol().type(SHAPES[it]).size(44)()]));
+
+/** The path of a majority's dot. */
+export function markPath(majority: Majority): string {
+  return PATHS.get(majority) ?? "";
+}
 
 /** A drawing: its root, and the height that is used so far. */
 export interface Frame {
@@ -141,10 +147,34 @@ export function framed(place: Element, look: Look, items: readonly LegendItem[],
   return { root, top: top + 24 };
 }
 
+function sourceLines({ source, width, typeface }: Look): string[] {
+  return source.flatMap((it) => wrapped(it, width - 16, typeface, SOURCE));
+}
+
+/** The height of the source lines. */
+export function footHeight(look: Look): number {
+  return 12 + 14 * sourceLines(look).length;
+}
+
+/** The least and the greatest height of a row, in figures and on the page's own paper. */
+const [LEAST_ROW, MOST_ROW] = [11, 18] as const;
+
+/** The height of each of some rows: what the rest of a figure leaves, as long as letters fit. */
+export function rowHeight({ most }: Look, many: number, rest: number): number {
+  return Math.max(LEAST_ROW, Math.min(MOST_ROW, (most - rest) / many));
+}
+
+/** A number of an axis: large ones are short. */
+export function axisText(value: number): string {
+  return Math.abs(value) < 10_000
+    ? String(Number(value.toPrecision(6))).replace("-", "−")
+    : new Intl.NumberFormat("en", { notation: "compact" }).format(value).replace("-", "−");
+}
+
 /** Ends a drawing: the source lines, and the height. */
 export function ended({ root }: Frame, look: Look, bottom: number): void {
   let height = bottom + 6;
-  for (const line of look.source.flatMap((it) => wrapped(it, look.width - 16, look.typeface, SOURCE))) {
+  for (const line of sourceLines(look)) {
     height += 14;
     const text = root.append("text").attr("x", 8).attr("y", height).attr("fill", look.palette.faint);
     text.attr("font-size", SOURCE).text(line);
@@ -202,7 +232,7 @@ export function headed(frame: Frame, names: readonly string[], panels: Panels, l
 /** Where rows begin: names are to the left of them, or above them if there is little room. */
 export function labelRoom(rows: readonly Named[], { width, typeface, isTight }: Look): { left: number; head: number } {
   const longest = Math.max(0, ...rows.map((row) => typeface.width(nameOf(row), TEXT))) + 18;
-  if (isTight) return longest > width * MOST_LABEL ? { left: 10, head: 15 } : { left: Math.max(30, longest), head: 0 };
+  if (isTight) return { left: Math.max(30, Math.min(longest, width * MOST_LABEL)), head: 0 };
   return width < 480 || longest > width / 2 ? { left: 10, head: 17 } : {
     left: Math.max(60, Math.min(longest, width / 3)),
     head: 0,

@@ -49,3 +49,32 @@ export const SOURCES: readonly string[] = [
   "International Monetary Fund. Articles of Agreement, adopted at the United Nations Monetary and Financial Conference, Bretton Woods, New Hampshire, 22 July 1944; in force since 27 December 1945; as amended. Article II, Section 2; Article III, Section 2(c); Article XII, Sections 3(h), 3(i), 5(a) and 5(c); Article XXVI, Sections 1 and 2(b); Schedule L.",
   "Penrose, Lionel S. (1946). The elementary statistics of majority voting. Journal of the Royal Statistical Society 109(1), 53-57.",
 ];
+
+/** How the measures are named in a sentence. */
+export const MEASURE_NAMES = {
+  share: "share of power",
+  banzhaf: "Banzhaf measure",
+  prevent: "power to prevent action",
+  initiate: "power to initiate action",
+  swings: "number of swings",
+} as const;
+
+/** The sentences on who has most and who gains most; what they speak of stands in braces. */
+export const FINDINGS = {
+  none_wins: "{at} no coalition wins: the open chairs cast {cast} of {total} votes.",
+  none_before: "{at} no coalition wins in the base, so nothing can be compared.",
+  most_one: "{at}, chair {chairs} has the largest {measure}: {value}{votes}.",
+  most_several: "{at}, chairs {chairs} have the largest {measure}, each the same: {value}.",
+  votes: " with {share} of the votes",
+  gains: "{at}, in {measure}: {gain}; {loss}.{opened}",
+  gain_one: "chair {chairs} gains most, {change}",
+  gain_several: "chairs {chairs} gain most, {change} each",
+  gain_none: "no chair gains",
+  loss_one: "chair {chairs} loses most, {change}",
+  loss_several: "chairs {chairs} lose most, {change} each",
+  loss_none: "no chair loses",
+  new: " Chair {chair} is new: {value}.",
+  closed: " Chair {chair} is closed; in the base it had {value}.",
+  tiny: "less than {change}",
+  points: "{change} percentage points",
+} as const;

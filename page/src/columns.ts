@@ -1,13 +1,11 @@
 /** Registers side by side: each is compared with the base, or with the one before it. */
 import type { App, Shown } from "./app";
+import { changeWords } from "./commandWords";
 import { inOrder, pairRows, sidesOf, type ChairRow, type Side } from "./compare";
 import type { Counted } from "./count";
-import { counted } from "./fractions";
-import type { Outcome } from "./orders";
 import type { Results } from "./results";
-import { recordOf } from "./script";
 import { stepsOf } from "./steps";
-import type { View } from "./study";
+import type { Change, View } from "./study";
 
 /** A register that is shown beside others, and the count that gives it. */
 export interface Column extends Side {
@@ -36,12 +34,11 @@ export interface Columns {
   readonly isOne: boolean;
 }
 
-/** What a step does: its record, or the first of them and how many others there are; or what was refused. */
-function stepWords(outcome: Outcome | undefined): string {
-  if (outcome?.kind === "refused") return `${recordOf(outcome.refused)} (refused)`;
-  const [first, ...others] = outcome?.kind === "accepted" ? outcome.commands : [];
-  if (!first) return "(refused)";
-  return recordOf(first) + (others.length ? ` and ${counted(others.length, "more command")}` : "");
+/** What a step does, in words. */
+function stepWords(change: Change | undefined, { outcomes, opening }: Counted): string {
+  if (!change) return "";
+  const outcome = outcomes.get(change.id);
+  return changeWords(change, outcome, opening) + (outcome?.kind === "accepted" ? "" : " (refused)");
 }
 
 /** The board after all changes, as a column. */
@@ -74,7 +71,7 @@ export function stepColumns({ study, counted }: Shown, results: Results): { list
     const found = results.step(study.base, changes, counted.majorities);
     const last = changes[changes.length - 1];
     if (!found) return [];
-    const words = stepWords(found.outcomes.get(last?.id ?? 0));
+    const words = stepWords(last, found);
     return [columnOf(`step ${at + 1}: ${words}`, found, `${at + 1} ${words}`)];
   });
   return { list, waiting: steps.length - list.length };

@@ -1,11 +1,12 @@
 /** Base against changed: rows of chairs, their order, and the sentence on gains. All of it is made here. */
+import { FINDINGS, MEASURE_NAMES } from "./cited";
 import type { Counted } from "./count";
 import { compared, difference, fractionText, grouped, percent, rounded, signed, type Ratio } from "./fractions";
 import { isolated, listed } from "./names";
 import { chairIn, measureOf, voteShare, type ChairReading, type Readings } from "./reading";
 import { chairKey, type Standing } from "./standing";
 import type { View } from "./study";
-import { MAJORITY, MEASURE, type Majority, type Measure } from "./words";
+import { MAJORITY, type Majority, type Measure } from "./words";
 
 /** A chair at a majority; it is undefined where the chair isn't open. */
 export interface AtMajority {
@@ -130,9 +131,18 @@ export function gainText(gain: Ratio | null, measure: Measure, digits: number): 
   return signed(measure === "share" ? percent(gain, digits) : rounded(gain, digits + 2));
 }
 
-/** The gain in a measure, with its unit. */
+/** A sentence of the table of findings, with what it speaks of. */
+function said(name: keyof typeof FINDINGS, words: Readonly<Record<string, string>>): string {
+  return FINDINGS[name].replace(/\{(\w+)\}/g, (_, key: string) => words[key] ?? "");
+}
+
+/** The gain in a measure in a sentence; one that rounds to 0 is less than the last place. */
 export function gainWords(gain: Ratio, measure: Measure, digits: number): string {
-  return gainText(gain, measure, digits) + gainUnit(measure);
+  const text = gainText(gain, measure, digits);
+  const isTiny = gain.numerator !== 0n && !/[1-9]/.test(text);
+  const change = isTiny ? text.replace(/^-/, "").replace(/0$/, "1") : text;
+  const words = measure === "share" ? said("points", { change }) : change;
+  return isTiny ? said("tiny", { change: words }) : words;
 }
 
 /** The chairs with the greatest gain or loss. */
@@ -158,67 +168,67 @@ export interface Said {
   readonly source: string;
 }
 
-function gainSource({ chair, name, at }: ChairRow, majority: Majority, measure: Measure): string {
-  const found = at.get(majority);
+/** A chair by number and name; one that has none is named by its number. */
+function namedChair({ chair, name }: Pick<ChairRow, "chair" | "name">): string {
+  return name === `chair ${chair}` ? String(chair) : `${chair} ${isolated(name)}`;
+}
+
+function gainSource(row: ChairRow, majority: Majority, measure: Measure): string {
+  const found = row.at.get(majority);
   const values = [found?.after, found?.before].map((it) => fractionText(ratioOf(it, measure)));
-  return `${chair} ${isolated(name)}, made here: ${values.join(" less ")}`;
+  return `${namedChair(row)}, made here: ${values.join(" less ")}`;
 }
 
 /** Chairs by number and name. */
 export function chairsWords(rows: readonly Pick<ChairRow, "chair" | "name">[]): string {
-  return listed(rows.map(({ chair, name }) => `${chair} ${isolated(name)}`));
+  return listed(rows.map(namedChair));
 }
 
+const DIRECTIONS = { gain: 1, loss: -1 } as const;
+type Direction = keyof typeof DIRECTIONS;
+
 /** The chairs that gain most, or lose most: their names and the gain of each. Null if there are none. */
-function extreme(rows: readonly ChairRow[], view: View, majority: Majority, direction: 1 | -1) {
-  const found = extremes(rows, majority, direction);
+function extreme(rows: readonly ChairRow[], view: View, majority: Majority, direction: Direction) {
+  const found = extremes(rows, majority, DIRECTIONS[direction]);
   const [first] = found?.best ?? [];
   if (!found || !first) return null;
   return {
-    who: chairsWords(found.best),
+    chairs: chairsWords(found.best),
     isOne: found.best.length === 1,
-    gain: gainWords(found.gain, view.measure, view.digits),
+    change: gainWords(found.gain, view.measure, view.digits),
     source: gainSource(first, majority, view.measure),
   };
 }
 
 /** The chairs that gain most, or lose most, in a cell of a table. */
-export function extremeCell(rows: readonly ChairRow[], view: View, majority: Majority, direction: 1 | -1): Said {
+export function extremeCell(rows: readonly ChairRow[], view: View, majority: Majority, direction: Direction): Said {
   const found = extreme(rows, view, majority, direction);
-  return found ? { words: `${found.who} (${found.gain})`, source: found.source } : { words: "nobody", source: "" };
+  return found ? { words: `${found.chairs} (${found.change})`, source: found.source } : { words: "nobody", source: "" };
 }
 
 /** Chairs that are open only in the base or only in the changed board, which have no gain. */
 function openedWords(rows: readonly ChairRow[], view: View, majority: Majority): string {
-  const named = (what: string, kind: ChairRow["kind"]) => {
-    const values = rows.filter((it) => it.kind === kind).map((row) => {
+  const named = (name: "new" | "closed", kind: ChairRow["kind"]) =>
+    rows.filter((it) => it.kind === kind).map((row) => {
       const at = row.at.get(majority);
       const value = valueText(ratioOf(at?.after ?? at?.before, view.measure), view.measure, view.digits);
-      return `${row.chair} ${isolated(row.name)} (${value})`;
+      return said(name, { chair: namedChair(row), value: value === "-" ? "no value" : value });
     });
-    return values.length ? ` ${what}: ${values.join(", ")}.` : "";
-  };
-  return named("New", "opened") + named("Closed", "closed");
-}
-
-/** The measure inside a sentence. */
-export function measureWords(measure: Measure): string {
-  return MEASURE[measure].label.replace(/^(?!Banzhaf)./, (letter) => letter.toLowerCase());
+  return [...named("new", "opened"), ...named("closed", "closed")].join("");
 }
 
 /** The sentence on the greatest gain and the greatest loss at a majority. */
 function gainSentence(rows: readonly ChairRow[], view: View, majority: Majority): Said {
-  const [best, worst] = [extreme(rows, view, majority, 1), extreme(rows, view, majority, -1)];
-  const said = (found: typeof best, verb: string, none: string) => {
-    if (!found) return none;
-    const [chairs, each] = found.isOne ? ["chair", ""] : ["chairs", " each"];
-    return `${chairs} ${found.who} ${found.isOne ? `${verb}s` : verb} most (${found.gain}${each})`;
-  };
-  const gains = said(best, "gain", "no chair gains");
-  const loses = said(worst, "lose", "no chair loses");
-  const source = [best, worst].flatMap((it) => (it ? [it.source] : [])).join("; ");
-  const about = `${MAJORITY[majority].at}, by ${measureWords(view.measure)}`;
-  return { words: `${about}, ${gains}, ${loses}.${openedWords(rows, view, majority)}`, source };
+  const parts = (["gain", "loss"] as const).map((direction) => {
+    const found = extreme(rows, view, majority, direction);
+    const { chairs = "", change = "", source = "", isOne } = found ?? {};
+    const words = said(`${direction}_${!found ? "none" : isOne ? "one" : "several"}`, { chairs, change });
+    return { words, source };
+  });
+  const [gain = "", loss = ""] = parts.map((it) => it.words);
+  const opened = openedWords(rows, view, majority);
+  const words = { at: MAJORITY[majority].at, measure: MEASURE_NAMES[view.measure], gain, loss, opened };
+  return { words: said("gains", words), source: parts.flatMap((it) => it.source || []).join("; ") };
 }
 
 /** The greatest value of a measure, and the chairs that have it. */
@@ -244,26 +254,28 @@ function greatest(rows: readonly ChairRow[], view: View, majority: Majority): Gr
 function mostSentence(rows: readonly ChairRow[], view: View, majority: Majority): Said {
   const found = greatest(rows, view, majority);
   const [first, ...others] = found?.chairs ?? [];
-  if (!found || !first) return { words: `${MAJORITY[majority].at} no chair has any power.`, source: "" };
-  const votes = others.length || !first.votesAfter
-    ? ""
-    : `, with ${percent(first.votesAfter, view.digits)} % of the votes cast`;
-  const most = valueText(found.most, view.measure, view.digits);
-  const who = chairsWords(found.chairs);
-  const has = others.length === 0 ? `chair ${who} has the greatest` : `chairs ${who} have the greatest, each the same`;
+  if (!found || !first) return { words: "", source: "" };
+  const words = {
+    at: MAJORITY[majority].at,
+    measure: MEASURE_NAMES[view.measure],
+    chairs: chairsWords(found.chairs),
+    value: valueText(found.most, view.measure, view.digits),
+    votes: first.votesAfter ? said("votes", { share: `${percent(first.votesAfter, view.digits)} %` }) : "",
+  };
   return {
-    words: `${MAJORITY[majority].at}, by ${measureWords(view.measure)}, ${has}: ${most}${votes}.`,
+    words: said(others.length ? "most_several" : "most_one", words),
     source: `counted: ${fractionText(found.most)}; votes, made here: ${fractionText(first.votesAfter)}`,
   };
 }
 
-/** The reason if a reading has no power to show: no coalition wins. */
+/** The reason if there is no power to show or to compare: no coalition wins. */
 export function emptySentence(counted: Counted, majority: Majority): string | null {
-  const reading = counted.after.get(majority);
-  if (!reading || reading.winning > 0) return null;
-  const { chairs: { length: open }, cast, total } = reading;
-  const votes = `${open} ${open === 1 ? "chair casts" : "chairs cast"} ${grouped(cast)} of ${grouped(total)}`;
-  return `${MAJORITY[majority].at} no coalition wins: ${votes}.`;
+  const [before, after] = [counted.before.get(majority), counted.after.get(majority)];
+  const { at } = MAJORITY[majority];
+  if (after?.winning === 0) {
+    return said("none_wins", { at, cast: grouped(after.cast), total: grouped(after.total) });
+  }
+  return before?.winning === 0 ? said("none_before", { at }) : null;
 }
 
 /** The sentences of all majorities that are shown. */

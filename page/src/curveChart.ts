@@ -3,7 +3,7 @@ import { axisBottom, axisLeft, axisRight } from "d3-axis";
 import { scaleLinear, type Linear } from "d3-scale";
 import type { Selection } from "d3-selection";
 import {
-  caption, captionBlock, dot, ended, framed, majorityItems, onAxis, tinted, type LegendItem, type Look,
+  axisText, caption, captionBlock, dot, ended, framed, majorityItems, onAxis, tinted, type LegendItem, type Look,
 } from "./charts";
 import type { Ratio } from "./fractions";
 import { chairIn, measureOf, voteShare, type Readings } from "./reading";
@@ -26,7 +26,7 @@ export interface CurveModel {
 }
 
 const HEIGHT = 340;
-/** If points are close together, the number of dots that show the shape of a line. */
+/** The dots that show the shape of a line, however many points it has. */
 const SHAPES = 14;
 
 function yOf(ratio: Ratio | null, measure: Measure): number | null {
@@ -115,13 +115,14 @@ function drawAxes(
   const ends: [number, number] = [Math.max(0, Math.min(...all) - room), Math.min(most, Math.max(...all) + room)];
   const y = scaleLinear().domain(ends).range([bottom, top]).nice(6);
   const across = root.append("g").attr("transform", `translate(${left},0)`);
-  across.call(axisLeft(y).ticks(6).tickSizeInner(-(right - left)).tickSizeOuter(0));
+  across.call(axisLeft(y).ticks(6).tickFormat(axisText).tickSizeInner(-(right - left)).tickSizeOuter(0));
   tinted(across, look.palette);
   const along = root.append("g").attr("transform", `translate(0,${bottom})`);
-  along.call(axisBottom(x).ticks(look.width < 480 ? 4 : 8).tickSizeOuter(0));
+  along.call(axisBottom(x).ticks(look.width < 480 ? 4 : 8).tickFormat(axisText).tickSizeOuter(0));
   tinted(along, look.palette);
   const words = measure === "share" ? "share of power, per cent" : MEASURE[measure].label;
-  caption(root, words, 8, top - 12, look.palette);
+  const [from] = y.domain();
+  caption(root, from > 0 ? `${words} (the axis begins at ${from})` : words, 8, top - 12, look.palette);
   return y;
 }
 
@@ -156,7 +157,7 @@ function pathOver(points: readonly CurvePoint[], values: readonly (number | null
   }));
 }
 
-/** Draws a measure: a dot at each point, and straight lines between them. */
+/** Draws a measure: straight lines between its points, and dots at some of them. */
 function drawLine(
   { root, model, look, x }: Plot,
   majority: Majority,
@@ -169,9 +170,8 @@ function drawLine(
   const large = Math.ceil(many / SHAPES);
   model.points.forEach((point, at) => {
     const value = values[at] ?? null;
-    if (value === null) return;
-    const size = many > 60 && at % large ? 0.4 : 0.85;
-    const here = root.append("g").attr("transform", `translate(${x(point.x)},${y(value)}) scale(${size})`);
+    if (value === null || (at % large && at < many - 1)) return;
+    const here = root.append("g").attr("transform", `translate(${x(point.x)},${y(value)}) scale(0.85)`);
     dot(here.attr("data-point", at), majority, false, look.palette);
   });
 }

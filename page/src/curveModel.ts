@@ -42,6 +42,14 @@ export function sweepTitle(asked: SweepAsked): string {
   return sweepText(asked) + (asked.on === "changed" ? " on the changed board" : "");
 }
 
+/** A sweep in plain words, for the title of its chart. */
+function sweepWords({ who, on, unit, from, to, by }: SweepAsked): string {
+  const whose = who.kind === "chair" ? `chair ${who.chair}` : who.code;
+  const what = unit === "percent" ? "per cent of the total" : "votes";
+  const where = on === "changed" ? ", on the changed board" : "";
+  return `with ${from} to ${to} ${what} for ${whose}, in steps of ${by}${where}`;
+}
+
 /** The chart's model, also for exports. Null if no sweep is counted. */
 export function curveModel(app: App): CurveModel | null {
   const { curve, view } = app;
@@ -62,7 +70,7 @@ export function curveModel(app: App): CurveModel | null {
     measure: view.measure,
     hasVotes: view.curveVotes,
     xWords: isPercent ? "votes of what is swept, per cent of the total voting power" : "votes of what is swept",
-    name: `${MEASURE[view.measure].label} of chair ${chair} ${isolated(standing.name(chair))}: ${sweepTitle(asked)}`,
+    name: `${MEASURE[view.measure].label} of chair ${chair} ${isolated(standing.name(chair))}, ${sweepWords(asked)}`,
   };
 }
 

@@ -32,15 +32,13 @@ function swallowClick(): void {
   setTimeout(() => removeEventListener("click", stop, true));
 }
 
-/** Scrolls the sheet of the chairs, or else the window, if a point is near its upper or lower edge. */
+/** Scrolls the window if a point is near its upper edge, or its lower one above a phone's bar. */
 function scrollAtEdge(y: number): void {
-  const sheet = byId("chairs");
-  const isSheet = getComputedStyle(sheet).overflowY === "auto";
-  const { top, bottom } = isSheet ? sheet.getBoundingClientRect() : { top: 0, bottom: innerHeight };
-  const above = Math.max(0, top + EDGE - y);
-  const below = Math.max(0, y - (bottom - EDGE));
+  const bar = document.querySelector<HTMLElement>(".sheets")?.offsetHeight ?? 0;
+  const above = Math.max(0, EDGE - y);
+  const below = Math.max(0, y - (innerHeight - bar - EDGE));
   const by = Math.round((FASTEST * Math.min(EDGE, Math.max(above, below))) / EDGE);
-  if (by) (isSheet ? sheet : document.documentElement).scrollTop += above > 0 ? -by : by;
+  if (by) document.documentElement.scrollTop += above > 0 ? -by : by;
 }
 
 /** A press on a member, which may become a drag. */

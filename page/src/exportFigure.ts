@@ -1,14 +1,13 @@
 /** The figure of the tab for exports: at a chosen width, in a chosen typeface, light, with its source. */
 import type { App, Shown } from "./app";
 import { LIGHT, type Look } from "./charts";
+import { drawGains, drawPower } from "./chairChart";
 import { columnsOf, hasGains } from "./columns";
 import { drawCurve } from "./curveChart";
 import { curveModel, sweepTitle } from "./curveModel";
 import { millimetresOf, unitsOf } from "./figureSize";
-import { drawGains } from "./gainChart";
-import { powerModel } from "./look";
+import { chairModel } from "./look";
 import { isolated } from "./names";
-import { drawPower } from "./powerChart";
 import { firstLines, provenanceOf, studySource, type Provenance, type Source } from "./provenance";
 import { columnSources } from "./registers";
 import { sizesModel } from "./sizes";
@@ -18,9 +17,10 @@ import { typeface } from "./typeface";
 import { boardWords } from "./views/coalitionParts";
 import { MAJORITY, MEASURE } from "./words";
 
-/** How a figure is drawn: its width in millimetres, its fonts as CSS has them, and whether it has a title. */
+/** How a figure is drawn: its width and its greatest height in millimetres, its fonts, and whether it has a title. */
 export interface FigureChoice {
   readonly width: number;
+  readonly most: number;
   readonly family: string;
   readonly hasTitle: boolean;
 }
@@ -30,6 +30,8 @@ export interface DrawnFigure {
   readonly svg: SVGSVGElement;
   readonly width: number;
   readonly height: number;
+  /** The height that it should have at most. */
+  readonly most: number;
   readonly title: string;
   /** Where its numbers come from, and how it was drawn: a line each. */
   readonly lines: readonly string[];
@@ -45,7 +47,7 @@ interface Figure {
 function chairFigure(app: App, shown: Shown, draw: typeof drawPower): Figure {
   const { measure, majorities } = app.view;
   const columns = columnsOf(app, shown);
-  const model = powerModel(app, columns);
+  const model = chairModel(app, columns);
   const title = `${MEASURE[measure].label}, ${majorities.map((it) => MAJORITY[it].label).join(", ")}`;
   return { title, sources: columnSources(app, shown, columns), draw: (place, look) => draw(place, model, look) };
 }
@@ -95,19 +97,19 @@ export async function figureOfTab(app: App): Promise<(choice: FigureChoice) => D
   return (choice) => drawn({ ...found, title }, choice, provenance);
 }
 
-function drawn(figure: Figure, { width, family, hasTitle }: FigureChoice, found: Provenance): DrawnFigure {
+function drawn(figure: Figure, { width, most, family, hasTitle }: FigureChoice, found: Provenance): DrawnFigure {
   const place = document.createElement("div");
   const scripts = found.scripts.filter((it) => it.startsWith("script"));
   const source = [`Source: ${found.counted}; ${found.date}`, ...scripts, found.module];
   const title = hasTitle ? figure.title : "";
-  const style = { palette: LIGHT, typeface: typeface(family), isTight: true };
+  const style = { palette: LIGHT, typeface: typeface(family), isTight: true, most: unitsOf(most) };
   figure.draw(place, { width: unitsOf(width), title, source, ...style });
   const svg = place.firstElementChild as SVGSVGElement;
   const height = millimetresOf(Number(svg.getAttribute("height")));
   svg.setAttribute("width", `${width}mm`);
   svg.setAttribute("height", `${height}mm`);
   const words = `figure ${width} mm wide, ${height} mm high, text of 9 points, fonts ${family}`;
-  return { svg, width, height, title: figure.title, lines: [...firstLines(found), words] };
+  return { svg, width, height, most, title: figure.title, lines: [...firstLines(found), words] };
 }
 
 /** The text of a figure's file. */

@@ -1,16 +1,34 @@
-/** Sizes of figures: widths in millimetres, and the resolution of pictures. A unit of a drawing is a CSS pixel. */
+/** Sizes of figures: widths and heights in millimetres, and the resolution of pictures. A unit is a CSS pixel. */
 import type { Typed } from "./amounts";
+import type { Family } from "./typeface";
 
 export const WIDTHS = {
-  single: { words: "Single column, 84 mm", width: 84 },
-  double: { words: "Double column, 174 mm", width: 174 },
-  slide: { words: "Slide, 254 mm", width: 254 },
+  single: { words: "Single column, 84 mm", width: 84, most: 200 },
+  double: { words: "Double column, 174 mm", width: 174, most: 200 },
+  slide: { words: "Slide of 16 by 9, 254 mm", width: 254, most: 142.875 },
 } as const;
+/** The height that figures of other widths have at most: that of a column of text. */
+export const MOST_HEIGHT = 230;
 export type Width = keyof typeof WIDTHS;
 
 const [NARROWEST, WIDEST] = [75, 500];
 const [COARSEST, FINEST] = [72, 1200];
 export const RESOLUTION = 300;
+
+/** What is chosen and typed for a figure. */
+export interface FigureChosen {
+  width: Width | "own";
+  ownWidth: string;
+  typeface: Family | "own";
+  font: string;
+  resolution: string;
+  hasTitle: boolean;
+}
+
+export const FIRST_FIGURE: Readonly<FigureChosen> = {
+  width: "double", ownWidth: "120 mm", typeface: "sans", font: "", resolution: String(RESOLUTION), hasTitle: true,
+};
+
 const INCH = 25.4;
 /** CSS pixels in an inch. */
 const PIXELS = 96;

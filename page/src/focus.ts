@@ -1,10 +1,13 @@
 /** Focus that isn't lost when the element that has it goes. */
 
-/** Runs an act that replaces what is in a place. If the focus was in it and is lost, an heir has it. */
+/** Runs an act that changes what is in a place. If the focus was in it and is lost, or on what is disabled, an heir has
+ * it. */
 export function keepFocus(place: HTMLElement, heir: () => HTMLElement, act: () => void): void {
   const hadFocus = place.contains(document.activeElement);
   act();
-  if (hadFocus && !place.contains(document.activeElement)) heir().focus({ preventScroll: true });
+  const { activeElement } = document;
+  const isLost = !place.contains(activeElement) || activeElement?.matches(":disabled");
+  if (hadFocus && isLost) heir().focus({ preventScroll: true });
 }
 
 /** Disables a control or enables it. If it had the focus and is disabled, an heir has it. */

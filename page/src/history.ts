@@ -11,6 +11,11 @@ export class History<State> {
     return this.now;
   }
 
+  /** The state before the gesture that goes on; without one, the present state. */
+  get resting(): State {
+    return this.#gesture ? this.#past[this.#past.length - 1] ?? this.now : this.now;
+  }
+
   /** Adds a state. States of one gesture, such as a slider that moves, are one step of undo. */
   take(state: State, gesture = ""): void {
     if (gesture === "" || gesture !== this.#gesture) this.#past.push(this.now);

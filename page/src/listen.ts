@@ -12,13 +12,13 @@ import { hasMergedCells } from "./tables/html";
 import { withChanges } from "./study";
 import { openBest } from "./views/best";
 import { openExports, saveStudy } from "./views/exportDialog";
-import { paintForPaper } from "./views/figures";
 import { openSeal } from "./views/foot";
 import { openAdmit } from "./views/member";
 import { openGroup } from "./views/operations";
-import { paintChairs } from "./views/chairs";
+import { listenChairs, paintChairs } from "./views/chairs";
 import { openRecount } from "./views/recount";
 import { orRefuse } from "./views/refusal";
+import { hideTip } from "./views/tip";
 import { openPaste } from "./views/tableDialog";
 import { listenPublished } from "./views/top";
 
@@ -70,6 +70,12 @@ function guardLeaving(app: App): void {
   });
 }
 
+/** Shows what fails and is caught nowhere else. */
+function reportFailures(app: App): void {
+  addEventListener("unhandledrejection", ({ reason }) => app.report(reason));
+  addEventListener("error", ({ error, message }) => app.report(error ?? message));
+}
+
 /** Paints again when the window, the paper or the colours are others. */
 function watchScreen(app: App): void {
   let width = innerWidth;
@@ -77,11 +83,15 @@ function watchScreen(app: App): void {
     if (width !== innerWidth) app.repaint();
     width = innerWidth;
   });
+  const paintFor = (isPaper: boolean) => {
+    app.open.isPrinting = isPaper;
+    app.repaint();
+  };
   addEventListener("beforeprint", () => {
-    paintForPaper(app, true);
+    paintFor(true);
     fitTables();
   });
-  addEventListener("afterprint", () => paintForPaper(app, false));
+  addEventListener("afterprint", () => paintFor(false));
   matchMedia("(prefers-color-scheme: dark)").addEventListener("change", () => app.repaint());
 }
 
@@ -95,6 +105,24 @@ function buttons(app: App): void {
   onClick("redo", () => app.redo());
   onClick("admit-open", () => openAdmit(app));
   onClick("group-open", () => openGroup(app));
+  onClick("welcome-close", () => {
+    app.open.isWelcomed = true;
+    app.repaint();
+    byId("paste").focus();
+  });
+  // The menu Display closes at a click elsewhere and by Escape.
+  const display = () => document.querySelector<HTMLDetailsElement>("#display[open]");
+  document.addEventListener("pointerdown", (event) => {
+    const open = display();
+    if (open && !open.contains(event.target as Node)) open.open = false;
+  });
+  document.addEventListener("keydown", (event) => {
+    const open = display();
+    if (event.key !== "Escape" || !open) return;
+    open.open = false;
+    open.querySelector("summary")?.focus();
+  });
+  addEventListener("scroll", hideTip, { passive: true });
   onClick("clear-changes", () => app.take(withChanges(app.study, [])));
 }
 
@@ -108,10 +136,12 @@ export function listen(app: App): void {
     paintChairs(app);
   });
   listenPublished(app);
+  listenChairs(app);
   pointerDrag(app);
   keyboardDrag(app);
   keys(app);
   sheets();
   guardLeaving(app);
   watchScreen(app);
+  reportFailures(app);
 }

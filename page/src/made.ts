@@ -1,5 +1,6 @@
 /** The build's records in the page: the version, and the hashes of its sources and of the module. */
 import made from "../out/made.json";
+import { sha256 } from "./sha256";
 
 export const VERSION = made.version;
 /** The SHA-256 of the list of the page's sources with their hashes: page/build makes it. */
@@ -16,13 +17,10 @@ export function moduleBytes(): Uint8Array {
   return Uint8Array.from(atob(text.trim()), (letter) => letter.charCodeAt(0));
 }
 
-/** The text in place of a hash if the browser gives none. */
-export const NO_HASH = "not available in this browser";
-
-/** The SHA-256 of bytes or of a text, in hexadecimal; or words if the browser gives none. */
+/** The SHA-256 of bytes or of a text, in hexadecimal: the browser's own, or the page's where the browser gives none. */
 export async function hashOf(content: Uint8Array | string): Promise<string> {
-  if (!globalThis.crypto?.subtle) return NO_HASH;
   const bytes = typeof content === "string" ? new TextEncoder().encode(content) : content;
+  if (!globalThis.crypto?.subtle) return sha256(bytes);
   const digest = new Uint8Array(await crypto.subtle.digest("SHA-256", bytes));
   return Array.from(digest, (byte) => byte.toString(16).padStart(2, "0")).join("");
 }

@@ -5,7 +5,7 @@ import { App } from "./app";
 import { boardsOver } from "./boards";
 import { Counter } from "./count";
 import { byId } from "./dom";
-import { hashOf, MODULE_HASH, moduleBytes, NO_HASH } from "./made";
+import { hashOf, MODULE_HASH, moduleBytes } from "./made";
 import { baseOf } from "./tables/base";
 import { guessedLayout } from "./tables/columns";
 import { readTable } from "./tables/read";
@@ -22,7 +22,7 @@ async function example(counter: Counter): Promise<StudyData> {
   const { base: table } = readTable(sheet, guessedLayout(sheet), NO_ANSWERS);
   if (!table) throw new Error("the example isn't whole");
   const base = await baseOf(counter, { ...table, choices: [] }, await hashOf(exampleText));
-  return { study: studyOf("Example: invented votes", base), view: FIRST_VIEW };
+  return { study: studyOf("Example with invented votes", base), view: FIRST_VIEW };
 }
 
 async function begin(): Promise<void> {
@@ -32,7 +32,8 @@ async function begin(): Promise<void> {
   const [boards, hash] = await Promise.all([boardsOver(bytes), hashOf(bytes)]);
   const counter = new Counter(boards);
   const { study, view } = held ?? (await example(counter));
-  const app = new App(study, view, counter, hash === MODULE_HASH || hash === NO_HASH, paintPage);
+  const app = new App(study, view, counter, hash === MODULE_HASH, paintPage);
+  if (!held) app.example = study.base.script;
   app.repaintWaiting = () => paintWaiting(app);
   listen(app);
   await app.count();

@@ -3,7 +3,6 @@ import { h } from "./dom";
 import type { DrawnFigure } from "./exportFigure";
 
 const ALONE = "figure-alone";
-let ended: (() => void) | null = null;
 
 /** Adds rules to the page's style, which a policy allows that forbids further styles. Returns what removes them. */
 function withRules(rules: readonly string[]): () => void {
@@ -14,15 +13,8 @@ function withRules(rules: readonly string[]): () => void {
   return () => rules.forEach(() => sheet.deleteRule(first));
 }
 
-/** Puts the page in order again after a figure was printed. */
-function end(): void {
-  ended?.();
-  ended = null;
-}
-
-/** Shows a figure for paper alone. The title is the name of the file that browsers offer. */
-function begin({ svg, width, height }: DrawnFigure, name: string): void {
-  end();
+/** Shows a figure for paper alone. The title is the name of the file that browsers offer. Returns what ends it. */
+function begin({ svg, width, height }: DrawnFigure, name: string): () => void {
   const size = `${width}mm ${height}mm`;
   const box = `width: ${width}mm; height: ${height}mm;`;
   const removeRules = withRules([
@@ -34,7 +26,8 @@ function begin({ svg, width, height }: DrawnFigure, name: string): void {
   document.body.append(place);
   document.documentElement.classList.add(ALONE);
   document.title = name;
-  ended = () => {
+  return () => {
+    if (!place.isConnected) return;
     removeRules();
     place.remove();
     document.documentElement.classList.remove(ALONE);
@@ -45,7 +38,9 @@ function begin({ svg, width, height }: DrawnFigure, name: string): void {
 /** Has the browser print a figure, from where a person saves it as PDF. */
 export function printFigure(figure: DrawnFigure, name: string): void {
   if (typeof print !== "function") throw new Error("This browser can't print: save the figure as SVG.");
-  begin(figure, name);
+  // Ends an earlier figure, if its browser didn't.
+  if (document.getElementById("print-figure")) dispatchEvent(new Event("afterprint"));
+  const end = begin(figure, name);
   // Some browsers come back at once from printing, and some don't say when it has ended: then the next touch does.
   for (const kind of ["afterprint", "pointerdown", "keydown"]) addEventListener(kind, end, { once: true });
   print();

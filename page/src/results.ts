@@ -28,6 +28,7 @@ function stepKey(changes: readonly Change[], majorities: readonly Majority[]): s
 }
 
 export class Results {
+  version = 0;
   readonly #scenarios = new WeakMap<Scenario, Kept<Counted>>();
   readonly #steps = new Map<string, Kept<Counted>>();
   #sweeps: readonly Kept<Sweep>[] = [];
@@ -39,6 +40,7 @@ export class Results {
   }
 
   keepScenario(scenario: Scenario, value: Counted): void {
+    this.version += 1;
     this.#scenarios.set(scenario, { base: value.base, key: keyOf(value.majorities, []), value });
   }
 
@@ -49,6 +51,7 @@ export class Results {
   }
 
   keepStep(changes: readonly Change[], value: Counted): void {
+    this.version += 1;
     const key = stepKey(changes, value.majorities);
     this.#steps.delete(key);
     this.#steps.set(key, { base: value.base, key, value });

@@ -1,7 +1,7 @@
-/** The two sheets of a phone, which its bar at the bottom opens. */
+/** The sheet of a phone, which its bar at the bottom opens. */
 import { byId } from "./dom";
 
-const SHEETS = ["chairs", "right"];
+const SHEETS = ["right"];
 
 function buttonOf(name: string): HTMLElement | null {
   return document.querySelector<HTMLElement>(`.sheets [data-sheet="${name}"]`);

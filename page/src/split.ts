@@ -1,6 +1,6 @@
 /** Long orders, split into parts for several workers: sweeps, thresholds without a range, and single moves. */
 import { MEMBER_VOTES } from "../../bindings/javascript/src/names";
-import { compared, over, type Ratio } from "./fractions";
+import { compared, over, ZERO } from "./fractions";
 import type { Board, Interval, Orders, Point, Question, Statement, Swept, Threshold, Tried, Turns } from "./orders";
 import { unpacked } from "./packed";
 import { inSteps, type Ask, type Boards, type Report, type Task } from "./pool";
@@ -41,8 +41,6 @@ function questionsOf(points: readonly Point[], chair: number, majorities: readon
     });
   });
 }
-
-const ZERO: Ratio = { numerator: 0n, denominator: 1n };
 
 /** The thresholds that were found, by votes. */
 function thresholdsOf(questions: readonly Question[], found: readonly Turns[]): Threshold[] {

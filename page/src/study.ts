@@ -126,6 +126,10 @@ export type ColumnsShown = typeof COLUMNS[number];
 export const AGAINST = ["base", "before"] as const;
 export type Against = typeof AGAINST[number];
 
+/** What columns of the table of chairs are of, beside the power: each can be left out. */
+export const THINGS = ["added", "ratio", "votes", "share"] as const;
+export type Thing = typeof THINGS[number];
+
 /** The view of a study. It changes no number. */
 export interface View {
   readonly majorities: readonly Majority[];
@@ -137,6 +141,8 @@ export interface View {
   readonly tab: Tab;
   readonly columns: ColumnsShown;
   readonly against: Against;
+  /** What the table of chairs leaves out. */
+  readonly hidden: readonly Thing[];
   /** The chair whose curve is shown, or null for that of the sweep; and whether its votes are drawn, too. */
   readonly curveChair: number | null;
   readonly curveVotes: boolean;
@@ -145,13 +151,14 @@ export interface View {
 export const FIRST_VIEW: View = {
   majorities: ["half", "85"],
   measure: "share",
-  order: "number",
-  orderAt: "85",
-  digits: 3,
+  order: "votes",
+  orderAt: "half",
+  digits: 2,
   fractions: false,
   tab: "power",
   columns: "changed",
   against: "base",
+  hidden: [],
   curveChair: null,
   curveVotes: false,
 };

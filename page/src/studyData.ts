@@ -2,8 +2,8 @@
 import { Command } from "../../bindings/javascript/src/commands";
 import { scriptWith } from "./script";
 import {
-  AGAINST, COLUMNS, FIRST_VIEW, OPERATIONS, ORDERS, TABS, type Base, type Change, type Operation, type Percentage,
-  type Scenario, type Study, type SweepAsked, type View, type What,
+  AGAINST, COLUMNS, FIRST_VIEW, OPERATIONS, ORDERS, TABS, THINGS, type Base, type Change, type Operation,
+  type Percentage, type Scenario, type Study, type SweepAsked, type View, type What,
 } from "./study";
 import { CHAIRS, MAJORITIES, MEASURES } from "./words";
 
@@ -188,6 +188,7 @@ function view(value: unknown): View {
     tab: oneOf(TABS, found["tab"], "a tab"),
     columns: oneOf(COLUMNS, found["columns"] ?? FIRST_VIEW.columns, "columns"),
     against: oneOf(AGAINST, found["against"] ?? FIRST_VIEW.against, "a comparison"),
+    hidden: THINGS.filter((it) => list(found["hidden"] ?? [], "columns of the table").includes(it)),
     curveChair: CHAIRS.find((it) => it === found["curveChair"]) ?? null,
     curveVotes: found["curveVotes"] === true,
   };

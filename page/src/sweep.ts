@@ -2,7 +2,7 @@
 import { MEMBER_VOTES } from "../../bindings/javascript/src/names";
 import type { Register } from "../../bindings/javascript/src/register";
 import { shareVotes } from "./amount";
-import { decimalRatio, nearest, times } from "./fractions";
+import { decimalRatio, nearest } from "./fractions";
 import type { Orders, PackedPoint, Progress, SweptPart } from "./orders";
 import { packed } from "./packed";
 import { readingsOf } from "./reading";
@@ -14,7 +14,7 @@ const MOST_POINTS = 1001;
 /** The values from the first to the last, exactly. */
 export function valuesOf({ from, to, by }: SweepAsked): string[] {
   const places = Math.max(0, ...[from, to, by].map((it) => it.split(".")[1]?.length ?? 0));
-  const units = (text: string) => nearest(times(decimalRatio(text), 10n ** BigInt(places)));
+  const units = (text: string) => nearest(decimalRatio(text), 10n ** BigInt(places));
   const [first, last, step] = [units(from), units(to), units(by)];
   if (step <= 0n || last <= first || (last - first) % step !== 0n) {
     throw new BadSweep("whole steps lead from the first value to the last, which is greater");

@@ -55,7 +55,7 @@ function groupsOf(heads: readonly TexHead[]): Group[] {
 
 /** A row of a table: the chair's number, its name, and its numbers as they are shown. */
 export interface TexRow {
-  readonly chair: number;
+  readonly chair: string;
   readonly name: string;
   /** Words after the name. */
   readonly note: string;
@@ -66,18 +66,16 @@ function texRow({ chair, name, note, cells }: TexRow): string {
   // A name from right to left ends its line, or an editor would reverse the numbers after it.
   const label = `${texName(name)}${note}`;
   const space = isRightToLeft(label) ? "\n " : "";
-  return `${[String(chair), label + space, ...cells.map(texNumber)].join(" & ")} \\\\`;
+  return `${[chair, label + space, ...cells.map(texNumber)].join(" & ")} \\\\`;
 }
 
 /** The heading: the groups with a rule under each, and the heads of the columns. The first two have no group. */
 function heading(heads: readonly TexHead[], rows: readonly TexRow[]): string[] {
   const groups = groupsOf(heads);
-  const isPercent = ({ from, many }: Group) =>
-    rows.some(({ cells }) => cells.slice(from, from + many).some((it) => it.endsWith(" %")));
-  const cells = groups.map((it) =>
-    `\\multicolumn{${it.many}}{c}{${texText(it.words)}${isPercent(it) ? " (\\%)" : ""}}`);
+  const cells = groups.map((it) => `\\multicolumn{${it.many}}{c}{${texText(it.words)}}`);
+  const unit = (at: number) => (rows.some(({ cells }) => cells[at]?.endsWith(" %")) ? " (\\%)" : "");
   const rules = groups.map(({ from, many }) => `\\cmidrule(lr){${from + 3}-${from + many + 2}}`);
-  const own = ["Chair", "Name", ...heads.map((it) => texName(it.own))];
+  const own = ["Chair", "Name", ...heads.map((it, at) => texName(it.own) + unit(at))];
   return [`${["", "", ...cells].join(" & ").trimStart()} \\\\`, rules.join(""), `${own.join(" & ")} \\\\`];
 }
 
@@ -96,8 +94,13 @@ function comment(line: string): string {
   return `% ${line.replace(/[\s\u0000-\u001f\u007f]+/g, " ")}`;
 }
 
-/** The table. Its columns' words are those of the page. */
-export function texTable(heads: readonly TexHead[], rows: readonly TexRow[], source: readonly string[]): string {
+/** The table, with the sums in its last row. Its columns' words are those of the page. */
+export function texTable(
+  heads: readonly TexHead[],
+  rows: readonly TexRow[],
+  sums: TexRow,
+  source: readonly string[],
+): string {
   const names = [...heads.map((it) => it.own), ...rows.map((it) => it.name)];
   const hasTurned = names.some(isRightToLeft);
   const hasOthers = names.some((it) => OTHER_LETTERS.test(withoutControls(it)));
@@ -111,6 +114,8 @@ export function texTable(heads: readonly TexHead[], rows: readonly TexRow[], sou
     ...heading(heads, rows),
     "\\midrule",
     ...rows.map(texRow),
+    "\\midrule",
+    texRow(sums),
     "\\bottomrule",
     "\\end{tabular}",
     "",

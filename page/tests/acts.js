@@ -32,7 +32,7 @@ function taken(field, text, button) {
   return press(isOffered ? at(button) : document.querySelector("dialog .close")) && isOffered;
 }
 
-/** Opens the dialog of an operation on a chair: the filter finds the chair. */
+/** Opens the dialog of an operation on a chair, or closes an empty one: the filter finds the chair. */
 function operated(kind, chair) {
   fill(at("filter"), `chair ${chair}`);
   const isThere = press(at(`${kind}-${chair}`));
@@ -68,7 +68,6 @@ async function exported(id) {
 }
 
 const acts = {
-  exported,
   move: (code, place) => opened(code) && taken("move-to", place, "move-take"),
   votes: (code, text) => {
     const field = text.endsWith("%") ? (/^[+-]/.test(text) ? "votes-own" : "votes-total") : "votes-number";
@@ -90,7 +89,7 @@ const acts = {
     return isOpen && taken(`${id}-percent`, percent.replace("%", ""), `${id}-percent-take`);
   },
   open: () => press(at("open-new")),
-  close: (chair) => press(at(`close-${chair}`)),
+  close: (chair) => operated("close", chair),
   undo: () => press(at("undo")),
   redo: () => press(at("redo")),
   switch: (place) => press(at(`on-${change(place)}`)),
@@ -98,7 +97,17 @@ const acts = {
   earlier: (place) => press(at(`up-${change(place)}`)),
 };
 
-const found = acts[act](...words);
+/** Acts on members and chairs need the list of chairs: on another tab a user goes to it, and comes back. */
+function onList() {
+  const tab = document.querySelector("#tabs [aria-selected=true]");
+  if (!at("chairs").hidden || ["undo", "redo", "switch", "remove", "earlier"].includes(act)) return acts[act](...words);
+  press(at("tab-power"));
+  const done = acts[act](...words);
+  press(tab);
+  return done;
+}
+
+const found = act === "exported" ? exported(...words) : onList();
 (function settle() {
   if (document.documentElement.dataset.state === "counting") setTimeout(settle, 1);
   else Promise.resolve(found).then(answer);

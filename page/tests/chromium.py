@@ -20,7 +20,26 @@ WIDE, NARROW = 1280, 390
 # The ends of the names of files that are still being downloaded, in Chromium and in Firefox.
 PARTIAL = (".crdownload", ".part")
 HERE = Path(__file__).parent
+# Opens the folds around an element, from outside in, and closes the menu Display unless the element is in it.
+REACH = """
+  const thing = document.querySelector(arguments[0]), display = document.querySelector("#display[open]");
+  if (!thing) return;
+  if (display && !display.contains(thing)) display.open = false;
+  const folds = [];
+  for (let it = thing.parentElement; it; it = it.parentElement) if (it.matches("details:not([open])")) folds.push(it);
+  for (const it of folds.reverse()) if (!it.firstElementChild.contains(thing)) it.firstElementChild.click();
+"""
 ACCESS, ACTS = ((HERE / name).read_text() for name in ["access.js", "acts.js"])
+
+
+# Counts what the page posts to its workers from now on: the messages, and the characters in them.
+POSTED = """
+  const post = Worker.prototype.postMessage;
+  window.posted = [0, 0];
+  Worker.prototype.postMessage = function (message, ...others) {
+    window.posted = [window.posted[0] + 1, window.posted[1] + JSON.stringify(message).length];
+    return post.call(this, message, ...others);
+  };"""
 
 
 class Page:
@@ -89,25 +108,31 @@ class Page:
         assert len(found) == 1, f"{len(found)} things are at {place}"
         return found[0]
 
+    def reach(self, place: str) -> WebElement:
+        """The one element that a CSS selector finds, after the folds around it are opened as a user opens them."""
+        self.run(REACH, place)
+        return self.at(place)
+
     def text(self, place: str) -> str:
-        return str(self.again(lambda: self.at(place).text))
+        return str(self.again(lambda: self.reach(place).text))
 
     def texts(self, place: str) -> list[str]:
+        self.run(REACH, place)
         return list(self.again(lambda: [it.text for it in self.all(place)]))
 
     def click(self, place: str) -> None:
-        self.again(lambda: self.at(place).click())
+        self.again(lambda: self.reach(place).click())
         self.settle()
 
     def choose(self, place: str, value: str) -> None:
         """Chooses from a list."""
-        chosen: Any = Select(self.at(place))
+        chosen: Any = Select(self.reach(place))
         chosen.select_by_value(value)
         self.settle()
 
     def write(self, place: str, text: str) -> None:
         """Replaces the text of a field by typing, and presses Enter."""
-        self.at(place).send_keys(Keys.CONTROL, "a", Keys.NULL, text, Keys.ENTER)
+        self.reach(place).send_keys(Keys.CONTROL, "a", Keys.NULL, text, Keys.ENTER)
         self.settle()
 
     def press(self, *keys: str) -> None:

@@ -8,37 +8,63 @@ from oracle import MAJORITIES, Oracle
 from replay_output import Chair, Ratio
 from rounding import exact
 
-# For each row of the table of the chart, or on the tab Table: its chair, and its cells' texts and fractions.
-ROWS = """
+# For each row of the table of the chart, or on the tab Table: its chair, and its name and other cells as texts and
+# fractions; and before them, for each of the other cells, the heading of its group and its own.
+TABLE = """
   const [done] = [...arguments].slice(-1), box = document.getElementById("behind");
   if (box) box.open = true;
   (function read() {
-    const rows = [...document.querySelectorAll("#chair-table tbody tr")];
+    const [groups, own, ...rows] = document.querySelectorAll("#chair-table :is(thead, tbody) tr");
     if (!rows.length) return setTimeout(read, 1);
+    const wide = [...groups.cells].flatMap((it) => Array(it.colSpan).fill(it.textContent));
+    const heads = [...own.cells].map((it, at) => [wide[at], it.textContent]).slice(2);
     const fraction = ({ title }) => (title.includes("isn't open") ? "" : title.split(" ")[0]);
     const cells = (row) => [...row.querySelectorAll("td")].map((it) => [it.textContent, fraction(it)]);
-    done(rows.map((row) => [Number(row.dataset.chair), cells(row)]));
+    done([heads, rows.map((row) => [Number(row.dataset.chair), cells(row)])]);
   })();
 """
 # The cells of a row before those of the majorities: the name, and votes.
 BEFORE = 6
 # The cells of a majority: base, changed, and the gain.
 EACH = 3
+Cell = tuple[str, str]
+# What is added where nothing is changed.
+NOTHING = ("+0", "0/1")
 
 
-def rows(page: Page) -> dict[int, list[tuple[str, str]]]:
-    """The table's cells by chair: the text, and the exact fraction. A chair that was closed and opened again has two
-    rows, one with the cells of the base and one with those of the changed board."""
-    found: dict[int, list[tuple[str, str]]] = {}
-    for chair, cells in page.wait_for(ROWS):
-        earlier = found.get(chair, [("", "")] * len(cells))
-        both = zip(earlier, cells)
-        found[chair] = [(old[0], old[1]) if old[1] else (new[0], new[1]) for old, new in both]
+def things(heads: list[Cell], cells: list[Cell]) -> dict[str, list[Cell]]:
+    """The cells of a row by what they are of: those of the base, then of each column with what is added. Before a
+    change the base stands alone, and is the changed board, too."""
+    found: dict[str, list[Cell]] = {}
+    for (group, own), cell in zip(heads, cells):
+        if not own.startswith("over votes"):
+            found.setdefault("Share of votes" if own == "share" else group, []).append(cell)
+    return {it: of * 2 + [NOTHING] * (it != "Votes") if len(of) == 1 else of for it, of in found.items()}
+
+
+def table_rows(page: Page) -> dict[int, list[Cell]]:
+    """The table's cells by chair, in its own order: the name, and the numbers."""
+    _, lines = page.wait_for(TABLE)
+    return {chair: [(text, fraction) for text, fraction in cells] for chair, cells in lines}
+
+
+def rows(page: Page) -> dict[int, list[Cell]]:
+    """The table's cells by chair: the text, and the exact fraction; first the name and the votes, then those of each
+    majority. A chair that was closed and opened again has two rows, one with the cells of the base and one with those
+    of the changed board."""
+    found: dict[int, list[Cell]] = {}
+    heads, lines = page.wait_for(TABLE)
+    for chair, (name, *cells) in lines:
+        of = things(heads, [(text, fraction) for text, fraction in cells])
+        votes = of.pop("Votes") + of.pop("Share of votes")
+        line: list[Cell] = [(name[0], name[1]), *votes, *(cell for cells in of.values() for cell in cells)]
+        earlier = found.get(chair, [("", "")] * len(line))
+        found[chair] = [old if old[1] else new for old, new in zip(earlier, line)]
     return found
 
 
 def shown_majorities(page: Page) -> list[str]:
-    return [it for it in MAJORITIES if page.at(f"#at-{it}").is_selected()]
+    return [it for it in MAJORITIES if page.at(f"#at-{it}").get_attribute("aria-pressed") == "true"]
 
 
 def measure_of(chair: Chair, measure: str) -> Ratio | None:
@@ -75,6 +101,18 @@ def gains(oracle: Oracle, commands: list[str], majority: str) -> dict[int, Fract
     before, after = (oracle.output(it, [majority]).readings[0].chairs for it in (list[str](), commands))
     shares = [{it.chair: exact(it.share) for it in chairs if it.share} for chairs in (before, after)]
     return {chair: share - shares[0][chair] for chair, share in shares[1].items()}
+
+
+def drawn_chairs(page: Page) -> list[int]:
+    """The chairs of the list, from top to bottom: those that are open now."""
+    places = page.run("return [...document.querySelectorAll('#cards .card:has(.plot)')].map((it) => it.dataset.place);")
+    return [int(it) for it in places if not it.startswith("closed")]
+
+
+def open_chair(page: Page, chair: int) -> None:
+    """Opens a chair's row."""
+    if page.at(f"#card-{chair}").get_attribute("aria-expanded") == "false":
+        page.click(f"#card-{chair}")
 
 
 def open_menu(page: Page, code: str) -> None:

@@ -10,7 +10,7 @@ from member_tables import MemberTable, input_lines, read_table
 from replay_output import Output, read_output
 from tests.independent.counts import CLAUSES
 from voting_board.scenarios import Scenario
-from voting_board.studies import study
+from voting_board.studies import Study, study
 from voting_board.study_files import study_table
 
 TOP = Path(__file__).resolve().parents[2]
@@ -52,9 +52,13 @@ class Oracle:
 
     def study(self, scenarios: dict[str, list[str]], majorities: list[str], *sweeps: str) -> str:
         """The rows of a study, as board-study writes them: commands by their label, and sweeps."""
+        return study_table(self.studied(scenarios, majorities, *sweeps), [])
+
+    def studied(self, scenarios: dict[str, list[str]], majorities: list[str], *sweeps: str) -> Study:
+        """A study by the package, whose answers board-study prints."""
         labelled = [Scenario(label, tuple(commands)) for label, commands in scenarios.items()]
         at: Any = majorities
-        return study_table(study(self.table.rows(), at=at, scenarios=labelled, sweeps=sweeps), [])
+        return study(self.table.rows(), at=at, scenarios=labelled, sweeps=sweeps)
 
 
 def least(holds: Callable[[int], bool], low: int, high: int) -> int:

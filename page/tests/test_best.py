@@ -51,8 +51,9 @@ def words(of: Gains, names: dict[int, str], sign: int) -> tuple[str, str]:
     who = [f"{chair} {names[chair]}" for chair, gain in sorted(of.items()) if sign * gain == most]
     *first, last = who if len(who) < 4 else [*who[:3], f"{len(who) - 3} more"]
     joined = f"{', '.join(first)} and {last}" if first else last
-    text = signed(rounded(100 * sign * most, 3))
-    return f"{joined} ({text} points)", f"made here: {sign * most}"
+    text = signed(rounded(100 * sign * most, 2))
+    change = text if text.strip("+-0.") else "less than 0.01"
+    return f"{joined} ({change} percentage points)", f"made here: {sign * most}"
 
 
 def change(of: Gains) -> Fraction:

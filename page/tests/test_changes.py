@@ -6,7 +6,7 @@ from typing import Any
 
 import pytest
 from chromium import Page
-from figures import check_figures, open_menu
+from figures import check_figures, open_chair, open_menu
 from oracle import Oracle
 from selenium.webdriver.common.action_chains import ActionChains
 from selenium.webdriver.common.keys import Keys
@@ -135,22 +135,27 @@ def test_refused_in_red(page: Page, oracle: Oracle) -> None:
     check_figures(page, oracle, ["suspend,XAA", "move,XAA,2"])
 
 
+def numbers(page: Page) -> list[str]:
+    """What the page says of the board: its summary, its sentences, and the table behind the list."""
+    return [page.text(it) for it in ("#summary", "#sentences", "#panel")]
+
+
 def test_undo_and_redo(page: Page, oracle: Oracle) -> None:
     # Catches: an undo that leaves a part of a change, or that undoes two at once.
     check_figures(page, oracle, [])
-    seen = [page.text("#figures")]
+    seen = [numbers(page)]
     for act in [["move", "XAA", "2"], ["votes", "XAB", "+10%"], ["suspend", "XAC"], ["remove", "1"], ["switch", "0"]]:
         assert page.act(*act)
-        seen.append(page.text("#figures"))
+        seen.append(numbers(page))
     for before in seen[-2::-1]:
         page.run("document.activeElement.blur();")
         page.press(Keys.CONTROL, "z")
-        assert page.text("#figures") == before
+        assert numbers(page) == before
     assert not page.at("#undo").is_enabled()
     check_figures(page, oracle, [])
     for after in seen[1:]:
         page.click("#redo")
-        assert page.text("#figures") == after
+        assert numbers(page) == after
     check_figures(page, oracle, ["suspend,XAC"])
 
 
@@ -173,6 +178,7 @@ def test_open_and_close_chairs(page: Page, oracle: Oracle) -> None:
     for code in seated:
         assert page.act("move", code, "none")
     moved = [f"move,{code},none" for code in seated]
+    open_chair(page, 24)
     page.click("#close-24")
     check_figures(page, oracle, [*moved, "close,24"])
     page.click("#open-new")
@@ -184,7 +190,13 @@ def test_overtaken_run(page: Page, oracle: Oracle) -> None:
     assert page.act("votes", "XAD", "+40%")
     overtake = """
       const at = (place) => document.querySelector(`#changes ${place}`);
-      const look = () => Number(getComputedStyle(document.getElementById("panel")).opacity), looks = [look()];
+      const cards = document.getElementById("cards");
+      // What is counted fast doesn't turn grey at all: this looks at what it will be.
+      const look = () => {
+        for (const it of cards.getAnimations()) it.finish();
+        return Number(getComputedStyle(cards).opacity);
+      };
+      const looks = [look()];
       for (const percent of [50, 60, 70]) {
         at("input[type=range]").value = percent;
         at("input[type=range]").dispatchEvent(new Event("input", { bubbles: true }));

@@ -169,7 +169,7 @@ def sizes(page: Page) -> list[list[str]]:
 
 
 def share_text(winning: int, many: int) -> str:
-    return f"{float(Fraction(100 * winning, many)):.3f} %"
+    return f"{float(Fraction(100 * winning, many)):.2f} %"
 
 
 def test_sizes(small: Page) -> None:

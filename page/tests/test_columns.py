@@ -4,11 +4,10 @@ from __future__ import annotations
 import csv
 from fractions import Fraction
 from pathlib import Path
-from statistics import median
 
 import pytest
-from chromium import ACTS, EVERY, NARROW, Page
-from figures import rows, shown_majorities
+from chromium import EVERY, NARROW, POSTED, Page
+from figures import open_chair, rows, shown_majorities
 from oracle import MAJORITIES, UNSHOWN, Oracle, text_of
 from rounding import exact, rounded
 from selenium.webdriver.common.keys import Keys
@@ -28,11 +27,9 @@ REFORMS = {
 }
 HISTORY = ["votes,XAD,318104", "move,XAA,2", "close,1", "open,1", "move,XAD,1"]
 FRACTIONS = ["vote_share", "banzhaf", "power_share", "prevent", "initiate"]
-# How many times longer an edit may take with eight scenarios shown than without any; the aim is 4.
-MOST_TO_EDIT, EDITS, ROUNDS = 6, 12, 3
 
-# The names of the panels of a chart.
-TITLES = 'return [...document.querySelectorAll(".chart svg > text title")].map((it) => it.textContent);'
+# The names of the panels of the list.
+TITLES = 'return [...document.querySelectorAll("#list-columns .panel-name")].map((it) => it.textContent);'
 
 Shares = dict[int, Fraction]
 
@@ -156,7 +153,8 @@ def test_a_refused_change_is_a_column(page: Page) -> None:
     page.choose("#columns", "steps")
     page.click("#tab-change")
     counted(page)
-    assert page.run(TITLES) == ["1 suspend,XAB", "2 move,XAB,3 (refused)", "3 votes,XAD,1"]
+    suspended, refused = "1 XAB Roswick is suspended", "2 XAB Roswick → chair 3 (refused)"
+    assert page.run(TITLES) == [suspended, refused, "3 XAD Lomenia: 227,217 → 1"]
 
 
 def test_more_changes_than_are_shown(page: Page, oracle: Oracle) -> None:
@@ -214,7 +212,8 @@ def test_steps_in_csv_and_their_script(page: Page, oracle: Oracle) -> None:
     page.choose("#columns", "steps")
     counted(page)
     head, table = exported_table(page)
-    names = ["base", "changed", "step 1: votes,XAD,318104", "step 2: move,XAA,2"]
+    steps = ["step 1: XAD Lomenia: 227,217 → 318,104", "step 2: XAA Marenia: chair 1 → chair 2"]
+    names = ["base", "changed", *steps]
     assert list(dict.fromkeys(it["scenario"] for it in table)) == names
     reads = ["publish", *(f"read,1,{it}" for it in shown_majorities(page))]
     script = oracle.script([commands[0], *reads, commands[1]], shown_majorities(page))
@@ -227,7 +226,7 @@ def test_copied_columns(page: Page, oracle: Oracle) -> None:
     page.choose("#columns", "scenarios")
     page.click("#tab-table")
     counted(page)
-    heads = page.run('return [...document.querySelectorAll("#chair-table thead th")].map((it) => it.textContent);')
+    heads = page.run('return [...document.querySelectorAll("#chair-table thead th")].map((it) => it.ariaLabel);')
     assert "Share of power, simple majority, More, votes" in heads
     assert "Added, points, simple majority, More, votes less base" in heads
 
@@ -240,20 +239,21 @@ def test_columns_for_latex(page: Page, oracle: Oracle) -> None:
     page.choose("#against", "before")
     counted(page)
     table = tex_table(page)
-    assert table.heads[1][2:10] == [
-        "base",
-        "50 % & more",
-        "A_move",
-        "base",
-        "50 % & more",
+    assert table.heads[1][2:9] == [
+        "base (%)",
+        "50 % & more (%)",
         "added, points, less base",
-        "A_move",
+        "A_move (%)",
         "added, points, less 50 % & more",
+        "over votes, 50 % & more",
+        "over votes, A_move",
     ]
+    place = table.heads[0].index("Votes")
+    assert table.heads[1][place : place + 3] == ["base", "50 % & more", "A_move"]
     moved = shares(oracle, REFORMS["A move"], "half")
-    place = table.heads[0].index("Share of power, simple majority (%)") + 3
-    assert table.heads[1][place] == "A_move"
-    assert [it[place] for it in table.rows] == [rounded(100 * moved[int(it[0])], 3) for it in table.rows]
+    place = table.heads[0].index("Share of power, simple majority") + 3
+    assert table.heads[1][place] == "A_move (%)"
+    assert [it[place] for it in table.rows] == [rounded(100 * moved[int(it[0])], 2) for it in table.rows]
 
 
 def test_charts_of_columns(page: Page, oracle: Oracle) -> None:
@@ -264,13 +264,13 @@ def test_charts_of_columns(page: Page, oracle: Oracle) -> None:
     for tab in ["power", "change"]:
         page.click(f"#tab-{tab}")
         assert page.run(TITLES) == list(REFORMS)
-        page.run('document.querySelector(".chart").focus();')
-        page.press(Keys.ARROW_DOWN)
-        # The mouse may be over the chart.
+        page.run('document.activeElement.blur(); document.getElementById("card-2").focus({ focusVisible: true });')
         readout = page.text("#readout")
+        open_chair(page, 2)
+        exact_words = " ".join(page.texts("#cards [data-place='2'] .fractions li"))
         for commands in REFORMS.values():
-            share = shares(oracle, commands, "half")[int(readout.split()[0])]
-            assert fraction_of(share) in readout
+            share = shares(oracle, commands, "half")[2]
+            assert f"{rounded(100 * share, 2)} %" in readout and f" = {fraction_of(share)} (" in exact_words
         svg = page.act("exported", "export-svg")
         assert all(f"script of scenario {it} sha256" in svg for it in REFORMS)
 
@@ -304,6 +304,7 @@ def test_columns_on_a_phone_by_keyboard(page: Page) -> None:
     # Catches: choices that no keyboard reaches, or a table that is wider than a phone's screen without scrolling.
     keep(page, REFORMS)
     page.show(NARROW, 844)
+    page.click("#display summary")
     page.run('document.getElementById("columns").focus();')
     page.press(Keys.END)
     page.until(lambda: page.all("#against"), "the choice of what each column is compared with")
@@ -313,27 +314,22 @@ def test_columns_on_a_phone_by_keyboard(page: Page) -> None:
         assert page.run("return document.documentElement.scrollWidth <= innerWidth;"), tab
 
 
-def edit_time(page: Page) -> float:
-    """The milliseconds of an edit: the median of some."""
-    for votes in range(EDITS):
-        assert page.wait_for(ACTS, "votes", "XAD", str(300_001 + votes))
-    all_times = page.run('return performance.getEntriesByName("edit to numbers").map((it) => it.duration);')
-    return float(median(all_times[-EDITS:]))
+def posted(page: Page, votes: int) -> int:
+    """The messages that an edit posts to workers, until all is counted."""
+    page.run("window.posted = [0, 0];")
+    assert page.act("votes", "XAD", str(votes))
+    counted(page)
+    return int(page.run("return window.posted[0];"))
 
 
-def test_an_edit_beside_eight_scenarios(page: Page, record_property: Say) -> None:
-    # Catches: scenarios that are all counted or drawn again in a way that makes each edit wait for them.
+def test_an_edit_beside_eight_scenarios(page: Page) -> None:
+    # Catches: scenarios that are all counted again at each edit.
     for it in UNSHOWN:
         page.click(f"#at-{it}")
-    assert shown_majorities(page) == MAJORITIES
-    page.click("#tab-table")
-    alone = min(edit_time(page) for _ in range(ROUNDS))
+    page.run(POSTED)
+    alone = posted(page, 300_000)
     page.click("#clear-changes")
     keep(page, {f"Reform {it}": [f"votes,XA{letter},{it}00000"] for it, letter in enumerate("ABCDEFGH", 1)})
     page.choose("#columns", "scenarios")
-    counted(page)
-    beside = min(edit_time(page) for _ in range(ROUNDS))
-    record_property(
-        "time", f"an edit beside eight scenarios {beside:.0f} ms, {beside / alone:.1f} times one alone, all majorities"
-    )
-    assert beside < MOST_TO_EDIT * alone
+    page.until(lambda: len(page.run(TITLES)) == 8, "all scenarios")
+    assert posted(page, 310_000) == alone > 0

@@ -51,7 +51,7 @@ def test_page_of_a_study(page: Page, oracle: Oracle, made: Path) -> None:
     assert table_of(page.act("exported", "export-csv")) == rows and len({it["scenario"] for it in rows}) == 9
     page.click('[aria-label^="Show XAD"]')
     assert page.texts("#changes .change-words")[0] == "XAD Lomenia: 227,217 → 318,104 (+40 %)"
-    assert len(page.all(f"#at-{MAJORITIES[0]}:checked")) == 1
+    assert len(page.all(f"#at-{MAJORITIES[0]}[aria-pressed=true]")) == 1
 
 
 def test_saved_again(page: Page, made: Path) -> None:

@@ -11,7 +11,7 @@ from pathlib import Path
 
 import pytest
 from chromium import Page
-from figures import BEFORE, EACH, check_figures, lowest, rows, shown_majorities
+from figures import BEFORE, EACH, check_figures, drawn_chairs, lowest, rows, shown_majorities, table_rows
 from oracle import EXAMPLE, TOP, Oracle
 from replay_output import read_output
 from selenium.webdriver.common.keys import Keys
@@ -84,7 +84,7 @@ def test_svg(study: Page, oracle: Oracle, tab: str) -> None:
     _, content = study.downloaded("#export-svg")
     picture = ElementTree.fromstring(content)
     chairs = [int(it.get("data-chair", "")) for it in picture.iter() if it.get("data-chair")]
-    assert chairs == list(range(1, 25)) and picture.tag == "{http://www.w3.org/2000/svg}svg"
+    assert chairs == drawn_chairs(study) and len(chairs) == 24 and picture.tag == "{http://www.w3.org/2000/svg}svg"
     check_provenance(content.decode(), study, oracle)
     texts = " ".join("".join(it.itertext()) for it in picture.iter("{http://www.w3.org/2000/svg}text"))
     assert "Source: " in texts and study.text("#study-name") in texts
@@ -113,9 +113,11 @@ def test_clipboard(study: Page, is_exact: bool) -> None:
     study.click("#paste")
     study.at("#paste-text").send_keys(Keys.CONTROL, "v")
     text = str(study.at("#paste-text").get_property("value"))
-    copied = {int(line.split("\t")[0]): line.split("\t")[2:] for line in text.splitlines()[1:]}
-    shown = {chair: [cell[is_exact] for cell in cells[1:]] for chair, cells in rows(study).items()}
-    assert copied == {chair: [re.sub(",| %$", "", it) for it in cells] for chair, cells in shown.items()}
+    copied = {int(line.split("\t")[0]): line.split("\t")[2:] for line in text.splitlines()[1:-1]}
+    assert text.splitlines()[-1].startswith("\tAll chairs\t")
+    shown = {chair: [cell[is_exact] for cell in cells[1:]] for chair, cells in table_rows(study).items()}
+    plain = {chair: [re.sub(",| %$", "", it).replace("−", "-") for it in cells] for chair, cells in shown.items()}
+    assert copied == plain
 
 
 def test_page_with_its_study(study: Page, oracle: Oracle, tmp_path: Path) -> None:

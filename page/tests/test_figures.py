@@ -3,10 +3,22 @@ from __future__ import annotations
 
 import re
 from fractions import Fraction
+from typing import Any
 
 import pytest
 from chromium import Page
-from figures import BEFORE, EACH, check_figures, gains, lowest, measure_of, rows, shown_majorities
+from figures import (
+    BEFORE,
+    EACH,
+    check_figures,
+    drawn_chairs,
+    gains,
+    lowest,
+    measure_of,
+    open_chair,
+    rows,
+    shown_majorities,
+)
 from oracle import MAJORITIES, UNSHOWN, Oracle
 from replay_output import Ratio
 from rounding import exact, rounded
@@ -26,7 +38,7 @@ def changed(page: Page) -> Page:
 
 def test_first_look(page: Page, oracle: Oracle) -> None:
     # Catches: a page that begins empty, or with figures that aren't its example's.
-    assert page.text("#summary").startswith("base: 190 members, 24 chairs, ")
+    assert page.text("#summary").startswith("190 members · 24 chairs · ")
     check_figures(page, oracle, [])
 
 
@@ -66,8 +78,7 @@ def test_order_by_gain(changed: Page, oracle: Oracle) -> None:
     changed.choose("#order-at", "85")
     by_gain = sorted(gains(oracle, COMMANDS, "85").items(), key=lambda it: (-it[1], it[0]))
     assert list(rows(changed)) == [chair for chair, _ in by_gain]
-    drawn = [int(it.get_attribute("data-chair")) for it in changed.all(".chart svg g[data-chair]")]
-    assert drawn == list(rows(changed))
+    assert drawn_chairs(changed) == list(rows(changed))
 
 
 def test_sentence(changed: Page, oracle: Oracle) -> None:
@@ -75,10 +86,28 @@ def test_sentence(changed: Page, oracle: Oracle) -> None:
     of = gains(oracle, COMMANDS, "85")
     best, worst = max(of, key=lambda it: of[it]), min(of, key=lambda it: of[it])
     names = oracle.table.chair_names
-    points = {it: rounded(100 * of[it], 3) for it in (best, worst)}
-    wanted = f"At 85 per cent, by share of power, chair {best} {names[best]} gains most (+{points[best]} points), "
-    wanted += f"chair {worst} {names[worst]} loses most ({points[worst]} points)."
+    points = {it: rounded(100 * of[it], 2) for it in (best, worst)}
+    wanted = f"At 85 per cent, in share of power: chair {best} {names[best]} gains most, +{points[best]} percentage "
+    wanted += f"points; chair {worst} {names[worst]} loses most, {points[worst]} percentage points."
     assert wanted in changed.texts("#sentences p")
+
+
+@pytest.mark.parametrize("measure", [it for it in MEASURES if it != "swings"])
+def test_one_wording(page: Page, oracle: Oracle, measure: str) -> None:
+    # Catches: a finding that the page and board-study say in other words.
+    for majority in UNSHOWN:
+        page.click(f"#at-{majority}")
+    page.choose("#measure", measure)
+    page.choose("#digits", "3")
+    found: Any = oracle.studied({"changed": COMMANDS}, MAJORITIES)
+
+    def shown(texts: list[str]) -> list[str]:
+        """Sentences; measures other than shares have other numbers of digits."""
+        return texts if measure == "share" else [re.sub(r"\d+\.\d+", "#", it) for it in texts]
+
+    assert shown(page.texts("#sentences p")) == shown(found.results["base"].answers(measure))
+    assert page.act("votes", "XAD", "318104") and page.act("move", "XAA", "2")
+    assert shown(page.texts("#sentences p")) == shown(found.results["changed"].answers(measure))
 
 
 def test_no_coalition_wins(page: Page, oracle: Oracle) -> None:
@@ -88,22 +117,18 @@ def test_no_coalition_wins(page: Page, oracle: Oracle) -> None:
         assert page.act(*command.split(","))
     reading = oracle.output(commands, ["85"]).readings[0]
     assert reading.winning == 0
-    wanted = f"At 85 per cent no coalition wins: 24 chairs cast {reading.cast:,} of {reading.total:,}."
+    cast = f"{reading.cast:,} of {reading.total:,} votes"
+    wanted = f"At 85 per cent no coalition wins: the open chairs cast {cast}."
     assert wanted in page.texts("#sentences p")
     page.click("#at-half")
-    assert not page.all(".chart svg g[data-chair]")
+    assert not page.all("#cards .plot .at-85:not(.hollow)")
 
 
 def test_fraction_at_each_number(page: Page, oracle: Oracle) -> None:
     # Catches: a row of the chart whose exact numbers can't be seen.
-    page.run(
-        """
-      const row = document.querySelector('.chart g[data-chair="5"]');
-      row.dispatchEvent(new MouseEvent("pointerover", { bubbles: true }));
-    """
-    )
+    open_chair(page, 5)
     for reading in oracle.output([], shown_majorities(page)).readings:
-        assert lowest(reading.chairs[4].share) in page.text("#readout")
+        assert lowest(reading.chairs[4].share) in " ".join(page.texts("#cards [data-place='5'] .fractions li"))
     page.click("#tab-table")
     page.click("#toggle-fractions")
     assert rows(page)[5][BEFORE][0] == rows(page)[5][BEFORE][1]
@@ -113,12 +138,9 @@ def test_fraction_at_each_number(page: Page, oracle: Oracle) -> None:
 def test_each_decimal_equals_its_fraction(changed: Page, measure: str) -> None:
     # Catches: a decimal in percentage points that is said to equal a fraction of 1.
     changed.choose("#measure", measure)
-    changed.run(
-        """document.querySelector('.chart g[data-chair="5"]').dispatchEvent(
-      new MouseEvent("pointerover", { bubbles: true }));"""
-    )
-    found = changed.texts("#readout li")
-    assert len(found) == 5 + 3 * len(shown_majorities(changed))
+    open_chair(changed, 5)
+    found = changed.texts("#cards [data-place='5'] .fractions li")
+    assert len(found) == 5 + (4 if measure == "share" else 3) * len(shown_majorities(changed))
     for text in found:
         [(whole, part, unit, fraction)] = EQUATION.findall(text)
         decimal = Fraction(whole.replace(",", "") + part) / (100 if unit else 1)

@@ -12,7 +12,7 @@ from chromium import Page
 from figures import check_figures
 from oracle import TOP, Oracle
 
-MOST_BYTES = 900 * 1024
+MOST_BYTES = 1024 * 1024
 BUILT = TOP / "page" / "out" / "board.html"
 COMMITTED = TOP / "board.html"
 # The parts of a page, and last the whole. The module is in base64: its first bytes are a zero and asm.

@@ -12,7 +12,7 @@ from typing import Any
 import pytest
 from chromium import ACTS, NARROW, SECONDS, Page
 from conftest import BUILT
-from figures import check_figures, open_menu
+from figures import check_figures, open_chair, open_menu
 from firefox import Firefox, firefox
 from oracle import MAJORITIES, UNSHOWN, Oracle
 from selenium.webdriver.common.action_chains import ActionChains
@@ -114,6 +114,7 @@ def test_the_window_scrolls_at_its_edge(page: Page, oracle: Oracle) -> None:
 
 def test_what_is_said_of_a_drop(page: Page) -> None:
     # Catches: "XAA is moved" to people who don't see that the register refused it.
+    page.choose("#order", "number")
     page.click("#card-1")
     page.click("#card-2")
     assert page.act("suspend", "XAB")
@@ -164,12 +165,12 @@ class Finger:
 
 @pytest.fixture
 def finger(page: Page) -> Iterator[Finger]:
-    """A phone with the sheet of chairs open."""
+    """A phone with the first chair open."""
     page.driver.execute_cdp_cmd("Emulation.setTouchEmulationEnabled", {"enabled": True, "maxTouchPoints": 1})
     page.open()
     page.show(NARROW, 844)
-    page.click('.sheets [data-sheet="chairs"]')
     page.click("#card-1")
+    page.run('document.getElementById("card-1").scrollIntoView();')
     yield Finger(page)
     page.driver.execute_cdp_cmd("Emulation.setTouchEmulationEnabled", {"enabled": False})
 
@@ -200,12 +201,12 @@ def test_finger_that_moves_aside(page: Page, finger: Finger) -> None:
 def test_finger_that_scrolls(page: Page, finger: Finger) -> None:
     # Catches: a list that can't be scrolled by a finger that happens to begin on a member.
     start = middle(page, "#chip-XAA")
-    scrolled = 'return document.getElementById("chairs").scrollTop;'
-    assert page.run(scrolled) == 0
+    scrolled = "return scrollY;"
+    begun = page.run(scrolled)
     finger.down(start)
     finger.glide(start, (start[0], start[1] - 200))
     finger.up()
-    page.until(lambda: page.run(scrolled) > 100, "a list that is scrolled")
+    page.until(lambda: page.run(scrolled) > begun + 100, "a list that is scrolled")
     assert not page.all("#changes > li") and not page.all("dialog") and not page.all(".ghost")
 
 
@@ -227,15 +228,15 @@ def test_touch_that_is_taken_away(page: Page, finger: Finger) -> None:
     assert not page.all(".ghost") and not page.all(".card.aimed") and not page.all("#changes > li")
 
 
-def test_the_sheet_scrolls_at_its_edge(page: Page, oracle: Oracle, finger: Finger) -> None:
-    # Catches: a chair below the sheet's edge that no finger can reach.
+def test_the_phone_scrolls_at_its_edge(page: Page, oracle: Oracle, finger: Finger) -> None:
+    # Catches: a chair below the screen's edge, or under the bar there, that no finger can reach.
     start = middle(page, "#chip-XAA")
-    bottom = page.run('return document.getElementById("chairs").getBoundingClientRect().bottom;')
+    bottom = page.run('return document.querySelector(".sheets").getBoundingClientRect().top;')
     assert middle(page, head("22"))[1] > bottom
     finger.down(start)
     time.sleep(HELD)
     finger.glide(start, (start[0], bottom - 4))
-    page.until(lambda: middle(page, head("22"))[1] < bottom - 60, "chair 22 in the sheet")
+    page.until(lambda: middle(page, head("22"))[1] < bottom - 60, "chair 22 on the screen")
     rest = (start[0], bottom - 200)
     finger.glide((start[0], bottom - 4), rest, 3)
     finger.glide(rest, middle(page, head("22")), 3)
@@ -244,7 +245,7 @@ def test_the_sheet_scrolls_at_its_edge(page: Page, oracle: Oracle, finger: Finge
 
 
 def test_a_phone(page: Page, finger: Finger) -> None:
-    # Catches: choices below the chart; targets too small for a finger; something wider than the screen.
+    # Catches: sentences above the chart; targets too small for a finger; something wider than the screen.
     assert page.act("votes", "XAD", "+40%") and page.act("move", "XAA", "2")
     small = """
       const all = [...document.querySelectorAll("button, select, input, summary")];
@@ -252,16 +253,16 @@ def test_a_phone(page: Page, finger: Finger) -> None:
       const seen = all.filter((it) => it.checkVisibility()).map(target);
       return seen.filter((it) => it.getBoundingClientRect().height < 40).map((it) => it.outerHTML);"""
     for place in ["#chip-XAA", "#name-2", "#admit-open", "#merge-2", "#split-2", "#scale-2", "#group-open"]:
+        page.run("document.querySelector(arguments[0]).scrollIntoView({ block: 'center' });", place)
         page.click(place)
         assert not page.run(small) and not page.look("wide", NARROW), place
         page.click(".close")
-    page.click("#chairs .sheet-close")
-    assert focus(page) == "" and page.run("return document.activeElement.dataset.sheet;") == "chairs"
     page.click('.sheets [data-sheet="right"]')
     assert not page.run(small) and not page.look("wide", NARROW)
     page.press(Keys.ESCAPE)
     assert not page.all("#right.open")
-    order = [middle(page, it)[1] for it in ["#choose", "#sentences", "#tabs", ".chart"]]
+    assert focus(page) == "" and page.run("return document.activeElement.dataset.sheet;") == "right"
+    order = [middle(page, it)[1] for it in ["#tabs", "#choose", "#cards", "#sentences"]]
     assert order == sorted(order)
 
 
@@ -351,6 +352,7 @@ def test_focus_after_undo(page: Page) -> None:
 def test_focus_when_a_card_goes(page: Page) -> None:
     # Catches: a focus that is lost with a chair that is closed, or with a member that withdraws.
     page.click("#open-new")
+    open_chair(page, 25)
     page.run('document.getElementById("close-25").focus();')
     page.press(Keys.ENTER)
     assert focus(page) == "filter" and not page.all("#card-25")
@@ -415,7 +417,7 @@ def test_filter_of_an_empty_chair(page: Page) -> None:
     # Catches: "no chair has this number" of a chair that is there and empty.
     page.click("#open-new")
     page.write("#filter", "25")
-    assert page.run(HEADS)[0] == "25 chair 25" and page.text("#filter-words") == ""
+    assert page.run(HEADS)[0] == "25 chair 25 (new)" and page.text("#filter-words") == ""
     page.click("#close-25")
     assert page.text("#filter-words") == "No member and no open chair has this code, name or number."
 
@@ -549,22 +551,27 @@ def test_name_of_an_admitted_member(page: Page) -> None:
     assert changes(page) == ["ZAA Zealand is admitted with 500,000 votes"]
 
 
+def title(page: Page, chair: int) -> str:
+    """The number and the name of a chair in its row."""
+    return page.text(f"#card-{chair} .card-title")
+
+
 def test_name_of_a_chair(page: Page, oracle: Oracle) -> None:
     # Catches: a Director who has left and can't be replaced; a chair without a name that shows the old one.
     page.click("#card-4")
     page.click("#name-4")
     assert page.at("#chair-name-text").get_property("value") == "Lakes"
     page.write("#chair-name-text", "Ms. Lake")
-    assert page.run(HEADS)[3] == "4 Ms. Lake" and focus(page) == "name-4"
+    assert title(page, 4) == "4 Ms. Lake" and focus(page) == "name-4"
     check_figures(page, oracle, [])
     page.click("#name-4")
     page.write("#chair-name-text", Keys.BACKSPACE)
     largest = max((it for it in oracle.table.members if it.chair == 4), key=lambda it: it.votes)
     seated = sum(it.chair == 4 for it in oracle.table.members)
-    assert page.run(HEADS)[3] == f"4 {largest.name}" + (f" and {seated - 1} more" if seated > 1 else "")
+    assert title(page, 4) == f"4 {largest.name}" + (f" and {seated - 1} more" if seated > 1 else "")
     for name in ["4 Ms. Lake", "4 Lakes"]:
         page.click("#undo")
-        assert page.run(HEADS)[3] == name
+        assert title(page, 4) == name
     assert not page.at("#undo").is_enabled()
 
 
@@ -594,7 +601,7 @@ def test_names_from_right_to_left(page: Page) -> None:
     says(page, f"BBB Belland is moved to chair 1 \u2068{HEBREW}\u2069.")
     assert page.act("move", "AAA", "none")
     summary = page.run('return document.getElementById("summary").textContent;')
-    assert f"1 in none: AAA \u2068{HEBREW}\u2069" in summary
+    assert f"in no chair: AAA \u2068{HEBREW}\u2069" in summary
 
 
 # Paper.
@@ -621,7 +628,7 @@ def test_paper(page: Page, tmp_path: Path) -> None:
       (row) => [...row.cells].map((it) => it.textContent));"""
     )
     found = "".join(printed(page, tmp_path).split())
-    assert len(cells) == 24 and len(cells[0]) == 7 + 3 * len(MAJORITIES)
+    assert len(cells) == 24 and len(cells[0]) == 7 + 4 * len(MAJORITIES)
     for row in cells:
         assert "".join("".join(row).split()) in found, row
 

@@ -2,27 +2,22 @@
 from __future__ import annotations
 
 import random
-import subprocess
-import time
-from statistics import median
 
 import pytest
-from chromium import ACTS, Page
+from chromium import POSTED, Page
 from oracle import Oracle, text_of
 from test_exports import DROP
-from tests.shared.commands import Say
 
 INPUT_BYTES = 4_194_304
-SEED, EDITS, ROUNDS = 20_260_102, 20, 4
-# How many times longer it may take here than board replay takes for the script, and an edit than one of the example.
-# The aims are 4 and 3; the bounds are wide, since the machine may be busy with something else.
-MOST_TO_OPEN, MOST_TO_EDIT = 16, 9
+SEED = 20_260_102
+# The characters that an edit may post to the worker.
+MOST_POSTED = 4_000
 OPEN = f"""
-  const [done] = [...arguments].slice(-1), begun = performance.now(), name = document.getElementById("study-name");
+  const [done] = [...arguments].slice(-1), name = document.getElementById("study-name");
   (() => {{ {DROP} }})(...arguments);
   (function wait() {{
     const isReady = document.documentElement.dataset.state === "ready" && name.textContent === "long";
-    if (isReady) done(performance.now() - begun);
+    if (isReady) done();
     else setTimeout(wait, 1);
   }})();
 """
@@ -46,38 +41,15 @@ def script(oracle: Oracle) -> str:
         records.append(record)
 
 
-def replayed(oracle: Oracle, script: str) -> float:
-    """The milliseconds that board replay takes for a script, the least of some rounds."""
-    times = []
-    for _ in range(ROUNDS):
-        begun = time.perf_counter()
-        subprocess.run([oracle.program, "replay"], input=script.encode(), stdout=subprocess.DEVNULL, check=True)
-        times.append(1000 * (time.perf_counter() - begun))
-    return min(times)
-
-
-def edits(page: Page) -> float:
-    """The milliseconds of an edit: the median of some."""
-    assert page.act("votes", "XAD", "300000")
-    for votes in range(EDITS):
-        assert page.wait_for(ACTS, "votes", "XAD", str(300_001 + votes))
-    all_times = page.run('return performance.getEntriesByName("edit to numbers").map((it) => it.duration);')
-    return float(median(all_times[-EDITS:]))
-
-
-def test_as_long_as_there_may_be(page: Page, oracle: Oracle, script: str, record_property: Say) -> None:
+def test_as_long_as_there_may_be(page: Page, oracle: Oracle, script: str) -> None:
     # Catches: a page that replays the whole script at each edit, or lists hundreds of thousands of changes.
-    of_example = edits(page)
-    program, opened = replayed(oracle, script), []
-    for _ in range(ROUNDS):
-        page.open()
-        opened.append(float(page.wait_for(OPEN, "long.csv", script)))
+    page.run(POSTED)
+    page.wait_for(OPEN, "long.csv", script)
+    assert page.run("return window.posted[1];") > INPUT_BYTES
     assert "the base is the board after all of them" in page.text("#choices")
     last = oracle.lines(script.encode()).decode().splitlines()
     total = last[-1 - len([it for it in last[-25:] if it.startswith("chair,")])].split(",")[7]
     assert f"{int(total):,} votes" in page.text("#summary")
-    of_long = edits(page)
-    ratio = f"{min(opened) / program:.1f} times board replay"
-    record_property("time", f"{INPUT_BYTES:,} bytes opened in {min(opened):.0f} ms, {ratio}")
-    record_property("time", f"an edit after it {of_long:.0f} ms, {of_long / of_example:.1f} times one of the example")
-    assert min(opened) < MOST_TO_OPEN * program and of_long < MOST_TO_EDIT * of_example
+    page.run("window.posted = [0, 0];")
+    assert page.act("votes", "XAD", "300000")
+    assert 0 < page.run("return window.posted[1];") < MOST_POSTED

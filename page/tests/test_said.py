@@ -63,11 +63,11 @@ def test_names_from_right_to_left(page: Page) -> None:
 def test_a_tie_has_no_winner(page: Page) -> None:
     # Catches: the first of several equal chairs that is called the greatest, or the one that gains most.
     opened(page, SEVEN)
-    chairs = "by share of power, chairs 1 Aland, 2 Bland, 3 Cland and 4 more"
-    assert f"{chairs} have the greatest, each the same: 14.286 %" in page.text("#sentences")
+    chairs = "chairs 1 Aland, 2 Bland, 3 Cland and 4 more"
+    assert f"{chairs} have the largest share of power, each the same: 14.29 %." in page.text("#sentences")
     assert page.act("suspend", "AAA")
-    assert "chairs 2 Bland, 3 Cland, 4 Dland and 3 more gain most (+2.381 points each)" in page.text("#sentences")
-    assert "chair 1 Aland loses most (-14.286 points)" in page.text("#sentences")
+    gain, loss = "+2.38 percentage points each", "chair 1 Aland loses most, -14.29 percentage points."
+    assert f"chairs 2 Bland, 3 Cland, 4 Dland and 3 more gain most, {gain}; {loss}" in page.text("#sentences")
 
 
 def test_a_chair_that_is_opened_again_is_new(page: Page, oracle: Oracle) -> None:
@@ -87,7 +87,7 @@ def test_a_chair_that_is_opened_again_is_new(page: Page, oracle: Oracle) -> None
     assert found == 0 and kinds == [["closed", f"{old} (closed)"], ["opened", f"{name} (new)"]]
     assert added(page, "18") == ["", ""]
     said = page.text("#sentences")
-    assert f"New: 18 {name} (" in said and f"Closed: 18 {old} (" in said
+    assert f"Chair 18 {name} is new: " in said and f"Chair 18 {old} is closed; in the base it had " in said
 
 
 def test_names_of_chairs_in_the_csv_are_those_on_the_screen(page: Page) -> None:
@@ -135,14 +135,16 @@ def test_a_sweep_is_undone(page: Page) -> None:
 
 def test_sources_and_definitions_stand_where_they_are_used(page: Page) -> None:
     # Catches: terms that are nowhere defined, and shares that don't add up without a word.
+    page.click("#board summary")
     board = page.text("#board")
     assert "A coalition is a set of open chairs." in board and "Power to act: the winning coalitions over all" in board
     title = "Share of power (normalised Banzhaf index)"
-    options = page.run('return [...document.getElementById("measure").options].map((it) => it.text);')
-    assert title in options and title in page.texts("#foot dt")
+    assert page.run('return document.getElementById("measure").parentElement.title;') == title
+    assert title in page.texts("#foot dt")
     page.click("#tab-table")
-    assert "Numbers may not add up: each is rounded alone." in page.text("#panel")
-    for measure, words in {"prevent": "by power to prevent action", "banzhaf": "by Banzhaf measure"}.items():
+    assert "Each number is rounded alone." in page.text("#panel")
+    named = {"prevent": "the largest power to prevent action", "banzhaf": "the largest Banzhaf measure"}
+    for measure, words in named.items():
         page.choose("#measure", measure)
         assert all(words in it for it in page.texts("#sentences p"))
 
@@ -173,7 +175,7 @@ def test_no_cell_is_a_formula(page: Page) -> None:
     page.press(Keys.ESCAPE)
     page.click("#paste")
     page.at("#paste-text").send_keys(Keys.CONTROL, "v")
-    copied = str(page.at("#paste-text").get_property("value")).splitlines()[1:]
+    copied = str(page.at("#paste-text").get_property("value")).splitlines()[1:-1]
     assert [it.split("\t")[1] for it in copied] == ["'=cmd|' /C calc'!A0", "'+1-2", "'-Minus"]
 
 

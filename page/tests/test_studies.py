@@ -76,7 +76,7 @@ def test_threshold(page: Page, oracle: Oracle) -> None:
                 return is_one(getattr(chair_at(oracle, [f"votes,XAD,{votes}"], majority, 4), what))
 
             votes = least(holds, 0, MOST_VOTES)
-            share = rounded(100 * exact(Ratio(votes, votes + rest)), 3)
+            share = rounded(100 * exact(Ratio(votes, votes + rest)), 2)
             wanted = f"{at} it {words} from {votes:,} votes, {share} % of the total (not at {votes - 1:,})."
             is_within = 1 < 100 * votes / (votes + rest) < 30
             assert (wanted in page.texts("#thresholds li")) == is_within, (wanted, page.texts("#thresholds li"))
@@ -133,7 +133,8 @@ def test_scenarios(page: Page, oracle: Oracle) -> None:
             of = gains(oracle, commands, majority)
             best, worst = max(of, key=lambda it: of[it]), min(of, key=lambda it: of[it])
             words = page.text(f'#scenarios tr[data-scenario="{name}"][data-majority="{majority}"]')
-            wanted = [f"{it} {names[it]} ({signed(rounded(100 * of[it], 3))} points)" for it in (best, worst)]
+            gained = {it: signed(rounded(100 * of[it], 2)) for it in (best, worst)}
+            wanted = [f"{it} {names[it]} ({gained[it]} percentage points)" for it in (best, worst)]
             assert " ".join(wanted) in words
     assert table_of(page.act("exported", "export-csv")) == table_of(oracle.study(kept, shown_majorities(page)))
     page.click('[aria-label="Show A move"]')
@@ -179,7 +180,7 @@ def test_slider(page: Page, oracle: Oracle) -> None:
     ).release().perform()
     page.settle()
     votes = int(str(page.at("#changes .slider [id^=number-]").get_property("value")))
-    assert votes > 300_000
+    assert votes not in (0, 300_000)
     check_figures(page, oracle, [f"votes,XAD,{votes}"])
     page.write("#changes .slider [id^=number-]", "400000")
     check_figures(page, oracle, ["votes,XAD,400000"])

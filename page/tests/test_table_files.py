@@ -11,7 +11,8 @@ from typing import Any
 import openpyxl  # type: ignore[import]
 import pytest
 from chromium import EVERY, NARROW, Page
-from figures import measure_of, shown_majorities
+from figures import drawn_chairs, measure_of, shown_majorities, table_rows
+from member_tables import Member
 from oracle import MAJORITIES, TOP, UNSHOWN, Oracle
 from replay_output import Chair, Reading
 from rounding import exact
@@ -101,6 +102,11 @@ def plain(number: Fraction, places: int) -> str:
 Pair = tuple[tuple[Reading, Chair], tuple[Reading, Chair]]
 
 
+def seated(oracle: Oracle) -> list[Member]:
+    """The members of the base that sit in a chair."""
+    return [it for it in oracle.table.members if it.chair]
+
+
 def pairs(oracle: Oracle, majorities: list[str]) -> dict[str, dict[int, Pair]]:
     """For each majority and chair its readings, base and changed. No chair of these studies opens or closes."""
     before, after = (oracle.output(it, majorities).readings for it in (list[str](), COMMANDS))
@@ -121,14 +127,17 @@ def powers(pair: Pair, measure: str) -> list[Fraction]:
 
 def wanted_cells(found: dict[str, dict[int, Pair]], chair: int, measure: str, digits: int) -> list[str]:
     """The cells of a chair, from the oracle's fractions."""
-    first = found["half"][chair]
-    votes, (base, changed) = [f"{of.weight:,}" for _, of in first], shares(first)
-    cells = [*votes, *(plain(100 * it, digits) for it in (base, changed)), signed(100 * (changed - base), digits)]
+    first, cells = found["half"][chair], list[str]()
+    of_votes = shares(first)
     for majority in MAJORITIES:
         base, changed = powers(found[majority][chair], measure)
         times, places = (100, digits) if measure == "share" else (1, 0 if measure == "swings" else digits + 2)
         cells += [plain(times * base, places), plain(times * changed, places), signed(times * (changed - base), places)]
-    return cells
+        if measure == "share":
+            cells.append(plain(changed / of_votes[1], max(2, digits)) if of_votes[1] else "")
+    base, changed = of_votes
+    shown = [*(plain(100 * it, digits) for it in (base, changed)), signed(100 * (changed - base), digits)]
+    return [*cells, *(f"{of.weight:,}" for _, of in first), *shown]
 
 
 def test_latex(study: Page, oracle: Oracle) -> None:
@@ -138,20 +147,21 @@ def test_latex(study: Page, oracle: Oracle) -> None:
         study.choose("#measure", measure)
         study.choose("#digits", str(digits))
         table = tex_table(study)
-        unit = " (%)" if measure == "share" else ""
-        groups = ["Votes"] * 2 + ["Share of votes (%)"] * 3
-        groups += [f"{words}, {LABELS[it]}{unit}" for it in MAJORITIES for _ in range(3)]
-        points = "added, points" if measure == "share" else "added"
-        own = ["base", "changed", "base", "changed", "added, points", *["base", "changed", points] * len(MAJORITIES)]
+        shares = ["base (%)", "changed (%)", "added, points"]
+        each = [*shares, "over votes"] if measure == "share" else ["base", "changed", "added"]
+        groups = [f"{words}, {LABELS[it]}" for it in MAJORITIES for _ in each]
+        groups += ["Votes"] * 2 + ["Share of votes"] * 3
+        own = [*each * len(MAJORITIES), "base", "changed", *shares]
         assert table.heads == [["", "", *groups], ["Chair", "Name", *own]]
-        assert [it[0] for it in table.rows] == [str(it) for it in range(1, 25)]
+        assert [int(it[0]) for it in table.rows] == drawn_chairs(study)
         for chair, _, *cells in table.rows:
             assert cells == wanted_cells(found, int(chair), measure, digits), (chair, measure)
             compared += len(cells)
+        assert table.sums[:2] == ["", "All chairs"] and table.sums[-5] == f"{sum(it.votes for it in seated(oracle)):,}"
         for column in zip(*(it[2:] for it in table.rows)):
-            assert len({len(cell.partition(".")[2]) for cell in column}) == 1, "points that don't align"
-    assert compared == 5 * 24 * (5 + 3 * len(MAJORITIES))
-    assert table.rules[1].count("cmidrule") == 2 + len(MAJORITIES) and len(table.rules) == 4
+            assert len({len(cell.partition(".")[2]) for cell in column if cell}) == 1, "points that don't align"
+    assert compared == 5 * 24 * (5 + 3 * len(MAJORITIES)) + 24 * len(MAJORITIES)
+    assert table.rules[1].count("cmidrule") == 2 + len(MAJORITIES) and len(table.rules) == 5
 
 
 def test_latex_fractions_and_order(study: Page, oracle: Oracle) -> None:
@@ -165,18 +175,20 @@ def test_latex_fractions_and_order(study: Page, oracle: Oracle) -> None:
       (row) => [...row.cells].map((it) => it.textContent));"""
     )
     table, found = tex_table(study), pairs(oracle, MAJORITIES)
-    assert table.rows == [[{"-": "--"}.get(it, it) for it in row] for row in shown]
+    assert table.rows == [[{"-": "--"}.get(it, it).replace("−", "-") for it in row] for row in shown]
     assert [int(it[0]) for it in table.rows] != sorted(int(it[0]) for it in table.rows)
     # Catches: fractions under a heading that says points.
     heads = study.texts("#chair-table thead th") + table.heads[1]
-    assert "Added, 85 per cent" in heads and not any("points" in it for it in heads)
+    assert "added" in heads and not any("points" in it for it in heads)
     for chair, _, *cells in table.rows:
-        values = [Fraction(it) for it in cells]
+        values = [None if it == "--" else Fraction(it) for it in cells]
+        of_votes = shares(found["half"][int(chair)])
         for at, majority in enumerate(MAJORITIES):
             base, changed = powers(found[majority][int(chair)], "share")
-            assert values[5 + 3 * at : 8 + 3 * at] == [base, changed, changed - base]
-        base, changed = shares(found["half"][int(chair)])
-        assert values[2:5] == [base, changed, changed - base]
+            ratio = changed / of_votes[1] if of_votes[1] else None
+            assert values[4 * at : 4 + 4 * at] == [base, changed, changed - base, ratio]
+        base, changed = of_votes
+        assert values[-3:] == [base, changed, changed - base]
 
 
 def test_latex_source(study: Page, oracle: Oracle) -> None:
@@ -191,6 +203,7 @@ def test_latex_source(study: Page, oracle: Oracle) -> None:
 def test_latex_names(page: Page) -> None:
     # Catches: a name that ends a cell, begins a comment or a command, or comes out as another name.
     named(page, HOSTILE)
+    page.choose("#order", "number")
     table = tex_table(page)
     assert [it[1] for it in table.rows] == [" ".join(it.split()) for it in HOSTILE]
     text = str(page.act("exported", "export-tex"))
@@ -211,9 +224,10 @@ def test_latex_chairs_that_open_and_close(page: Page) -> None:
     [closed], [new] = ([it for it in rows if it[1].endswith(f" ({word})")] for word in ["closed", "new"])
     assert closed[0] == new[0] == "1" and len(rows) == 25
     # The cells of the closed chair are empty in the changed board, and those of the new one in the base.
-    assert closed[2] == "650,549"
-    assert closed[3] == closed[5] == closed[8] == "" and closed[4] and closed[7] and closed[9] in ("", "--")
-    assert new[2] == new[4] == new[7] == "" and new[3] == "0" and new[5] and new[8] and new[9] in ("", "--")
+    votes, share = slice(-5, -3), slice(-3, None)
+    assert closed[votes] == ["650,549", ""] and closed[share][0] and closed[share][1:] == ["", ""]
+    assert new[votes] == ["", "0"] and new[share][0] == "" and new[share][1] and new[share][2] == ""
+    assert closed[2] and closed[3:6] == ["", "", ""] and new[2] == "" and new[3] and new[4] == ""
 
 
 def workbook(page: Page) -> tuple[str, Any]:
@@ -236,12 +250,6 @@ def check_cells(row: dict[str, Any], wanted: dict[str, str]) -> int:
             assert (cell or "") == text, (name, cell, text)
             continue
         assert type(cell) in (int, float), (name, cell)
-        if re.search("_(numerator|denominator)$", name):
-            # The workbook's fractions of votes aren't in lowest terms.
-            of = name.rpartition("_")[0]
-            value, own = (Fraction(int(it[f"{of}_numerator"]), int(it[f"{of}_denominator"])) for it in (wanted, row))
-            assert own == value and row[of] == float(value), (name, own, value)
-            continue
         places = len(text.partition(".")[2])
         assert abs(Fraction(cell) - Fraction(text)) <= Fraction(6, 10 ** (places + 1)) if places else cell == int(text)
     return len(wanted)
@@ -258,7 +266,7 @@ def exact_values(row: dict[str, str], base: dict[str, str]) -> Iterator[tuple[st
 def test_workbook(study: Page, oracle: Oracle) -> None:
     # Catches: a cell of the workbook that isn't the oracle's, a number that is a text, or a digit that is lost.
     name, book = workbook(study)
-    assert name.endswith("-table.xlsx") and book.sheetnames == ["Table", "Fractions", "Source"]
+    assert name.endswith("-table.xlsx") and book.sheetnames == ["Shown", "Table", "Fractions", "Source"]
     wanted = table_of(oracle.study({"changed": COMMANDS}, MAJORITIES))
     rows, fractions = rows_of(book["Table"]), rows_of(book["Fractions"])
     assert len(rows) == len(fractions) == len(wanted) == 2 * len(MAJORITIES) * 24
@@ -273,6 +281,20 @@ def test_workbook(study: Page, oracle: Oracle) -> None:
             assert number[column] == float(value), (column, number[column], value)
             compared += 1
     assert compared == len(wanted) * 10
+
+
+def test_workbook_of_what_is_shown(study: Page) -> None:
+    # Catches: a first sheet that isn't the table on the page: another order, other columns, or rounded numbers.
+    study.click("#tab-table")
+    for left_out in ["ratio", "share"]:
+        study.click(f"#table-{left_out}")
+    heads, *rows, sums = workbook(study)[1]["Shown"].iter_rows(values_only=True)
+    shown = table_rows(study)
+    assert [row[0] for row in rows] == list(shown) and len(heads) == 2 + 3 * len(MAJORITIES) + 2
+    for chair, _, *cells in rows:
+        fractions = [float(Fraction(fraction)) for _, fraction in shown[chair][1:]]
+        assert list(cells) == fractions
+    assert sums[1] == "All chairs" and sums[2] == 1 and sums[-1] == sum(row[-1] for row in rows)
 
 
 def test_workbook_source(study: Page, oracle: Oracle) -> None:
@@ -352,7 +374,7 @@ def check_sentence(text: str, page: Page, oracle: Oracle, majority: str) -> None
 
 def test_sentences_by_keyboard(study: Page, oracle: Oracle) -> None:
     # Catches: a sentence without its source, a button that no key reaches, a copy that nothing says.
-    study.run("document.getElementById('columns').focus();")
+    study.run("document.querySelector('#display summary').focus();")
     for majority in MAJORITIES:
         study.press(Keys.TAB)
         assert study.run("return document.activeElement.id;") == f"copy-{majority}"
@@ -360,7 +382,7 @@ def test_sentences_by_keyboard(study: Page, oracle: Oracle) -> None:
     study.press(Keys.ENTER)
     live = "return document.getElementById('live').textContent;"
     study.until(lambda: study.run(live) == "The sentence at 85 per cent is on the clipboard.", "a word of the copy")
-    assert study.text("#copy-85") == "Copied"
+    assert "done" in str(study.at("#copy-85").get_attribute("class"))
     check_sentence(pasted(study), study, oracle, "85")
     study.at("#copy-all").send_keys(Keys.ENTER)
     study.until(lambda: "sentences are" in study.run(live), "a word of the copy")
@@ -436,5 +458,5 @@ def test_a_finger(page: Page, finger: Finger, oracle: Oracle) -> None:
     assert page.text("#export-words") == "The sentence at a simple majority is on the clipboard."
     tap(finger, "#export-dialog .close")
     tap(finger, "#copy-85")
-    page.until(lambda: page.text("#copy-85") == "Copied", "a word of the copy")
+    page.until(lambda: page.all("#copy-85.done"), "a word of the copy")
     assert pasted(page).startswith(page.texts("#sentences p")[1] + "\nSource: counted: ")

@@ -104,7 +104,7 @@ def test_paste_from_a_spreadsheet(page: Page, oracle: Oracle) -> None:
     assert page.at("#header-row").get_property("value") == "3" and page.at("#delimiter").get_property("value") == "\t"
     take(page)
     check_figures(page, with_rows(oracle, [(code, name, 1000 * votes, chair) for code, name, votes, chair in ROWS]), [])
-    assert "1 in none: EEE Elland" in page.text("#summary")
+    assert "in no chair: EEE Elland" in page.text("#summary")
 
 
 def test_open_a_file(page: Page, small: Oracle, tmp_path: Path) -> None:
@@ -441,7 +441,7 @@ def test_as_much_as_there_may_be(page: Page, oracle: Oracle) -> None:
     page.until(lambda: page.all("#table-dialog"), "the preview")
     take(page, "most")
     check_figures(page, with_rows(oracle, [(code, "", votes, chair) for code, votes, chair in inputs.MOST_ROWS]), [])
-    assert page.text("#summary").startswith("base: 256 members, 32 chairs, ") and not page.all("#open-new")
+    assert page.text("#summary").startswith("256 members · 32 chairs · ") and not page.all("#open-new")
 
 
 def test_odd_names(page: Page, oracle: Oracle, tmp_path: Path) -> None:
@@ -451,7 +451,7 @@ def test_odd_names(page: Page, oracle: Oracle, tmp_path: Path) -> None:
     take(page, "odd")
     rows: list[Row] = [("AAA", 'A, "B" </script><b>&amp;', 40, 1), ("BBB", "Łódź", 26, 2), ("CCC", "日本", 15, 3)]
     small = with_rows(oracle, rows, {1: '=1+1, "C" --> <i>', 2: "Ünter & Söhne; 'x'", 3: "%20"})
-    assert page.act("votes", "AAA", "30") and not page.all("#page b, #page i")
+    assert page.act("votes", "AAA", "30") and not page.all("#main b, #main i:not(.key)")
     check_figures(page, small, ["votes,AAA,30"])
     wanted = small.study({"changed": ["votes,AAA,30"]}, shown_majorities(page))
     # A cell that a spreadsheet would take for a formula begins with an apostrophe.

@@ -57,7 +57,7 @@ def truth(oracle: Oracle, changes: list[str], who: str, chair: int, majority: st
     return holds
 
 
-def check(cells: list[tuple[str, str]], holds: Holds, now: int, rest: int, digits: int = 3) -> None:
+def check(cells: list[tuple[str, str]], holds: Holds, now: int, rest: int, digits: int = 2) -> None:
     """A row says the least votes from which a statement holds, or that it holds everywhere or nowhere."""
     if len(cells) == 1:
         is_everywhere = cells[0][0] == "with any number of votes, even with 0"
@@ -156,7 +156,6 @@ def test_by_keyboard(page: Page) -> None:
 def test_on_a_phone(page: Page) -> None:
     # Catches: a table that is wider than a phone, in place of sentences, or a dialog that can't be reached there.
     page.show(NARROW, 844)
-    page.click('.sheets [data-sheet="chairs"]')
     open_menu(page, "XAD")
     page.click("#find-member")
     page.until(lambda: page.all("#find-sentences li"), "the thresholds")

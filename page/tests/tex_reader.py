@@ -24,13 +24,14 @@ RULES = re.compile(r"\\(?:toprule|midrule|bottomrule)\n|(?:\\cmidrule\(lr\)\{\d+
 
 @dataclass
 class Table:
-    """The comments, the letters of the columns, and the rows of a tabular, each a list of texts."""
+    """The comments, the letters of the columns, and the rows of a tabular, each a list of texts; the last has sums."""
 
     comments: list[str]
     columns: str
     rules: list[str]
     heads: list[list[str]]
     rows: list[list[str]]
+    sums: list[str]
 
 
 def text_of(cell: str) -> str:
@@ -85,7 +86,8 @@ def read(text: str) -> Table:
     columns = "rl" + "r" * int(begun[1])
     body = body[begun.end() :].removesuffix("\\end{tabular}\n")
     rules = RULES.findall(body)
-    groups, own, *rows = [it for it in RULES.sub("", body).split(" \\\\\n") if it]
-    table = Table(comments, columns, rules, [head_of(groups), cells_of(own)], [cells_of(it) for it in rows])
-    assert {len(it) for it in [*table.heads, *table.rows]} == {len(columns)}, "rows of other lengths"
+    groups, own, *rows, sums = [it for it in RULES.sub("", body).split(" \\\\\n") if it]
+    heads = [head_of(groups), cells_of(own)]
+    table = Table(comments, columns, rules, heads, [cells_of(it) for it in rows], cells_of(sums))
+    assert {len(it) for it in [*table.heads, *table.rows, table.sums]} == {len(columns)}, "rows of other lengths"
     return table

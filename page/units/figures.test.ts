@@ -1,11 +1,10 @@
-/** Tests of the parts of exported figures that need no browser: sizes, texts in lines, hatches, chunks of a PNG. */
+/** Tests of the parts of exported figures that need no browser: sizes, texts in lines, rows, chunks of a PNG. */
 import assert from "node:assert/strict";
 import { test } from "node:test";
+import { axisText, LIGHT, rowHeight } from "../src/charts";
 import { millimetresOf, pointsOf, resolutionOf, unitsOf, widthOf } from "../src/figureSize";
-import { hatchPath } from "../src/hatches";
 import { withChunks } from "../src/png";
 import { fitted, fontName, wrapped, type Typeface } from "../src/typeface";
-import { MAJORITIES } from "../src/words";
 
 /** A typeface whose letters all have half the size. */
 const FACE: Typeface = { family: "mono", width: (text, size) => (text.length * size) / 2 };
@@ -48,18 +47,14 @@ test("texts in a width", () => {
   assert.equal(fitted("日本日本日本", 1, FACE, 10), "日本…");
 });
 
-test("hatches stay in their boxes", () => {
-  // Catches: lines beyond a bar, or a bar without any line.
-  for (const box of [{ x: 10, y: 20, width: 50, height: 6 }, { x: -30.5, y: 2, width: 9, height: 8 }]) {
-    for (const majority of MAJORITIES) {
-      const ends = [...hatchPath(majority, box).matchAll(/[ML](-?[0-9.]+),(-?[0-9.]+)/g)];
-      assert.ok(ends.length >= 2 && ends.length % 2 === 0, majority);
-      for (const [, x, y] of ends) {
-        assert.ok(Number(x) >= box.x - 0.01 && Number(x) <= box.x + box.width + 0.01, `${majority} ${x}`);
-        assert.ok(Number(y) >= box.y - 0.01 && Number(y) <= box.y + box.height + 0.01, `${majority} ${y}`);
-      }
-    }
-  }
+test("heights of rows", () => {
+  // Catches: rows that leave a figure higher than its paper, or so low that letters are over one another.
+  const look = { width: 300, palette: LIGHT, title: "", source: [], typeface: FACE, isTight: true, most: 600 };
+  assert.equal(rowHeight(look, 25, 200), 16);
+  assert.equal(rowHeight(look, 5, 200), 18);
+  assert.equal(rowHeight(look, 32, 580), 11);
+  assert.equal(axisText(-12_000_000), "−12M");
+  assert.equal(axisText(0.30000000000000004), "0.3");
 });
 
 test("chunks of a PNG", () => {

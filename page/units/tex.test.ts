@@ -25,22 +25,25 @@ test("a table", () => {
     head("Share", "added, points"), head("Count", ""),
   ];
   const rows = [
-    { chair: 1, name: "Hills\n& Dales", note: " (new)", cells: ["", "1,234", "-", "50.0 %", "-1.5", "7"] },
-    { chair: 2, name: "שלום", note: "", cells: ["9", "8", "1.0 %", "2.0 %", "+1.0", "8"] },
+    { chair: "1", name: "Hills\n& Dales", note: " (new)", cells: ["", "1,234", "-", "50.0 %", "-1.5", "7"] },
+    { chair: "2", name: "שלום", note: "", cells: ["9", "8", "1.0 %", "2.0 %", "+1.0", "8"] },
   ];
-  const lines = texTable(heads, rows, ["table A\nB sha256 x"]).split("\n");
+  const sums = { chair: "", name: "All chairs", note: "", cells: ["9", "1,242", "", "52.0 %", "", "15"] };
+  const lines = texTable(heads, rows, sums, ["table A\nB sha256 x"]).split("\n");
   assert.ok(lines.some((it) => it.startsWith("% Names have letters that pdfLaTeX lacks")));
   assert.ok(lines.includes("% table A B sha256 x"));
   assert.deepEqual(lines.slice(lines.indexOf("\\providecommand{\\righttoleft}[1]{#1}") + 1), [
     "\\begin{tabular}{rl*{6}{r}}",
     "\\toprule",
-    "&  & \\multicolumn{2}{c}{Votes} & \\multicolumn{3}{c}{Share (\\%)} & \\multicolumn{1}{c}{Count} \\\\",
+    "&  & \\multicolumn{2}{c}{Votes} & \\multicolumn{3}{c}{Share} & \\multicolumn{1}{c}{Count} \\\\",
     "\\cmidrule(lr){3-4}\\cmidrule(lr){5-7}\\cmidrule(lr){8-8}",
-    "Chair & Name & base & A \\& B & base & A \\& B & added, points &  \\\\",
+    "Chair & Name & base & A \\& B & base (\\%) & A \\& B (\\%) & added, points &  \\\\",
     "\\midrule",
     "1 & Hills \\& Dales (new) &  & 1,234 & -- & 50.0 & $-$1.5 & 7 \\\\",
     "2 & \\righttoleft{שלום}",
     "  & 9 & 8 & 1.0 & 2.0 & $+$1.0 & 8 \\\\",
+    "\\midrule",
+    " & All chairs & 9 & 1,242 &  & 52.0 &  & 15 \\\\",
     "\\bottomrule",
     "\\end{tabular}",
     "",

@@ -201,7 +201,7 @@ def test_new_and_closed_chairs(small: Study) -> None:
     found = small.results["A new chair"]
     assert found.opened == {3, 4} and found.gains("share", "half").keys() == {1, 2}
     said = found.answers()[0]
-    assert "Chair 3 is new: 0.000 per cent. Chair 4 DDD is new:" in said and "Chair 3 DDD is closed; in the ba" in said
+    assert "Chair 3 is new: 0.000 %. Chair 4 DDD is new:" in said and "Chair 3 DDD is closed; in the ba" in said
 
 
 def test_records(small: Study) -> None:
@@ -250,7 +250,9 @@ def test_sweep_of_a_group() -> None:
     votes: Whole = 40
     assert sweep_of("AAA+BBB 1..2 by 0.25 %").percents == ["1.00", "1.25", "1.50", "1.75", "2.00"]
     found = study(Register({"AAA": votes, "BBB": 60}), at="half")
-    assert found.results["base"].answers() == ["At a simple majority no coalition wins."]
+    assert found.results["base"].answers() == [
+        "At a simple majority no coalition wins: the open chairs cast 0 of 100 votes."
+    ]
 
 
 @pytest.mark.parametrize("processors", [1, 2, 5])

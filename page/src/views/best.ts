@@ -1,7 +1,7 @@
 /** The dialog of single moves: the best ones for a chair, or those of all that change any chair most. */
 import type { App, Shown } from "../app";
 import { changeOf, ranked } from "../best";
-import { measureWords } from "../compare";
+import { MEASURE_NAMES } from "../cited";
 import { openDialog } from "../dialogs";
 import { button, choice, h, paint, type Child } from "../dom";
 import { grouped } from "../fractions";
@@ -36,7 +36,7 @@ function wordsOf(app: App, { chair, majority }: Asked, tried: readonly Tried[], 
   const why = "have no gain, since no coalition wins before or after";
   const without = missing ? ` Of these, ${grouped(missing)} ${why}.` : "";
   const shown = Math.min(MOST_SHOWN, tried.length);
-  const about = `${measureWords(app.view.measure)}, ${MAJORITY[majority].label}`;
+  const about = `${MEASURE_NAMES[app.view.measure]}, ${MAJORITY[majority].label}`;
   const first = chair === null ? ` The ${shown} with the greatest gain or loss of any chair, by ${about}:` : "";
   return counted + without + first;
 }

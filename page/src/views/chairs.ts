@@ -1,18 +1,22 @@
-/** The chairs as cards, closed; open, they show their members as chips that can be dragged. */
+/** The list of chairs, each with its marks and numbers; open, it shows its members as chips that can be dragged. */
 import type { App, Shown } from "../app";
-import { button, byId, h, paint, type Child } from "../dom";
+import { button, byId, h, type Child } from "../dom";
 import { keepFocus } from "../focus";
-import { counted, fractionText, grouped, percent } from "../fractions";
-import { chairIn, voteShare } from "../reading";
+import { counted, grouped } from "../fractions";
+import type { Line } from "../columns";
 import { memberWords } from "../commandWords";
 import { chairKey, closedChair, type Place } from "../standing";
 import { namesChair, namesMember } from "../filter";
 import type { CardPlace } from "../moves";
-import { withAdded } from "../study";
+import { patch } from "../patch";
+import { withAdded, type Tab } from "../study";
+import { KIND_WORDS, rowWords } from "./chairTable";
 import { openChairName } from "./chairName";
 import { openMember } from "./member";
 import { operationButtons } from "./operations";
+import { gridOf, headOf, lineWords, listOf, numbersOf, plotOf, tipOf, votesOf, widthsOf, type List } from "./rows";
 import { openThresholds } from "./thresholds";
+import { hideTip, showTip } from "./tip";
 
 function chip(app: App, place: Place): HTMLElement {
   const words = memberWords(place.code, place.name);
@@ -28,7 +32,7 @@ function chip(app: App, place: Place): HTMLElement {
       "aria-label": `${words}, ${votes} votes${state}`,
       "aria-haspopup": "dialog",
       "aria-describedby": "chip-help",
-      onclick: () => openMember(app, place.code),
+      "aria-pressed": app.open.carried?.code === place.code ? "true" : null,
     },
     h("span", {}, place.name ? [`${place.code} `, h("bdi", {}, place.name)] : place.code),
     h("span", { class: "number" }, place.suspended ? `(${votes})` : votes),
@@ -40,10 +44,12 @@ interface Card {
   readonly place: CardPlace;
   /** The number of its chair and a name; or other words. */
   readonly title: Child;
-  readonly votes: string;
-  readonly source: string;
+  /** Its line in the chart, or words instead of one. */
+  readonly line: Line | null;
+  readonly words: string;
   readonly members: readonly Place[];
-  readonly tail: Child;
+  /** Its buttons, which are made once it is open. */
+  readonly tail: (() => Child) | null;
   /** Whether the filter names the chair itself. */
   readonly isNamed: boolean;
 }
@@ -74,32 +80,97 @@ function isHit({ found, isNamed }: Found): boolean {
   return isNamed || found.length > 0;
 }
 
-/** The head of a card: a button that opens it, or a line while a filter decides what is open. */
-function headOf(app: App, card: Card, isOpen: boolean): HTMLElement {
-  const parts = [
-    h("span", { class: "card-title" }, card.title),
-    h("span", { class: "number", title: card.source }, card.votes),
-  ];
-  const attributes = { id: `card-${card.place}`, class: "card-head" };
-  if (isFiltered(app)) return h("div", attributes, parts);
-  const toggle = () => {
-    if (isOpen) app.open.cards.delete(card.place);
-    else app.open.cards.add(card.place);
-    paintChairs(app);
-  };
-  return h("button", { type: "button", ...attributes, "aria-expanded": String(isOpen), onclick: toggle }, parts);
+/** The place of the row of a line: its chair's number, or its key if its chair is closed. */
+function placeOf({ counted }: Shown, { chair, key, kind }: Line): CardPlace {
+  return kind === "closed" || !counted.standing.open().includes(chair) ? `closed ${key}` : String(chair);
 }
 
-function cardElement(app: App, card: Found): HTMLElement {
+/** Shows the numbers of a row beside a point of the window. */
+function tipAt(app: App, head: HTMLElement, x: number, y: number): void {
+  const { shown } = app;
+  const place = head.parentElement?.dataset["place"];
+  const list = shown && listOf(app, shown);
+  const line = list?.columns.lines.find((it) => placeOf(shown as Shown, it) === place);
+  if (list && line) showTip(`chair ${place}`, () => tipOf(line, list), x, y);
+  else hideTip();
+}
+
+/** Shows the numbers of the row under the pointer, or of the row where the keyboard is. */
+function listenTip(app: App, list: HTMLElement): void {
+  const headOf = (event: Event) => (event.target as Element).closest<HTMLElement>(".card-head");
+  list.addEventListener("pointermove", (event) => {
+    const head = headOf(event);
+    const isHidden = event.pointerType === "touch" || document.body.classList.contains("dragging");
+    if (!head || isHidden) hideTip();
+    else tipAt(app, head, event.clientX, event.clientY);
+  });
+  list.addEventListener("focusin", (event) => {
+    const head = headOf(event);
+    if (!head?.matches(":focus-visible")) return;
+    const { left, width, bottom } = head.getBoundingClientRect();
+    tipAt(app, head, left + width * 0.62, bottom - 12);
+  });
+  for (const kind of ["pointerleave", "focusout"]) list.addEventListener(kind, hideTip);
+  list.addEventListener("keydown", (event) => event.key === "Escape" && hideTip());
+}
+
+/** Opens a row, or closes it. */
+function toggle(app: App, place: CardPlace): void {
+  const { cards } = app.open;
+  if (!cards.delete(place)) cards.add(place);
+  hideTip();
+  paintChairs(app);
+}
+
+/** Listens to the rows: a click opens one, or the menu of a member. */
+export function listenChairs(app: App): void {
+  const list = byId("cards");
+  listenTip(app, list);
+  list.addEventListener("click", (event) => {
+    const found = (event.target as Element).closest<HTMLElement>(".chip, button.card-head");
+    const { code } = found?.dataset ?? {};
+    if (code) openMember(app, code);
+    else if (found) toggle(app, found.parentElement?.dataset["place"] ?? "");
+  });
+}
+
+/** The head of a card: a button that opens it, or a line while a filter decides what is open. */
+function headElement(app: App, card: Card, isOpen: boolean, list: List): HTMLElement {
+  const { line } = card;
+  const parts = [
+    h("span", { class: "card-title" }, card.title),
+    line ? [votesOf(line, list), plotOf(line, list), numbersOf(line, list)] : h("span", { class: "rest" }, card.words),
+  ];
+  const attributes = { id: `card-${card.place}`, class: "card-head row" };
+  if (isFiltered(app) || (card.members.length === 0 && (card.tail === null || card.line === null))) {
+    return h("div", attributes, parts);
+  }
+  const name = line ? lineWords(line, list) : null;
+  return h("button", { type: "button", ...attributes, "aria-expanded": String(isOpen), "aria-label": name }, parts);
+}
+
+/** The exact fractions of an open chair, on request. */
+function fractions(line: Line, { columns, view }: List): HTMLElement {
+  return h("details", { class: "fractions" },
+    h("summary", {}, "Exact fractions"), h("ul", {}, rowWords(line, columns, view)));
+}
+
+function cardElement(app: App, card: Found, list: List): HTMLElement {
   const isLine = isFiltered(app) && !isHit(card);
-  const isOpen = card.found.length > 0 && (app.open.cards.has(card.place) || isFiltered(app));
-  const hasTail = card.tail !== null && (isOpen || (card.members.length === 0 && !isLine));
+  const isEmpty = card.members.length === 0 && card.line === null;
+  const isAsked = app.open.cards.has(card.place) && (card.found.length > 0 || card.members.length === 0);
+  const isOpen = !isEmpty && (isAsked || (isFiltered(app) && isHit(card)));
+  const hasTail = card.tail !== null && (isOpen || (isEmpty && !isLine));
+  const aimed = app.open.carried?.place === card.place ? " aimed" : "";
   return h(
     "li",
-    { class: isLine ? "card line" : "card", "data-place": card.place },
-    headOf(app, card, isOpen),
-    isOpen && h("ul", { class: "chips" }, card.found.map((it) => h("li", {}, chip(app, it)))),
-    hasTail && h("div", { class: "buttons" }, card.tail),
+    { class: `card${isLine ? " line" : ""}${aimed}`, "data-place": card.place, "data-key": card.place },
+    headElement(app, card, isOpen, list),
+    (isOpen || hasTail) && h("div", { class: "inside" },
+      isOpen && h("ul", { class: "chips" }, card.found.map((it) => h("li", {}, chip(app, it)))),
+      hasTail && h("div", { class: "buttons" }, card.tail?.() ?? null),
+      isOpen && card.line && fractions(card.line, list),
+    ),
   );
 }
 
@@ -116,52 +187,66 @@ function chairButtons(app: App, chair: number, isEmpty: boolean): Child {
   ];
 }
 
-function chairCard(app: App, { counted }: Shown, chair: number): Card {
-  const [reading] = counted.after.values();
-  const line = chairIn(reading, chair);
-  const share = reading && line ? voteShare(reading, line) : null;
-  const members = counted.standing.in(chair);
-  const name = (members.length || counted.standing.isNew(chair) ? counted.standing : counted.opening).name(chair);
+function chairCard(app: App, shown: Shown, line: Line): Card {
+  const { chair, name, kind } = line;
+  const place = placeOf(shown, line);
+  const isClosed = place !== String(chair);
+  const members = isClosed ? [] : shown.counted.standing.in(chair);
   return {
-    place: String(chair),
-    title: [`${chair} `, h("bdi", {}, name)],
-    source: line ? `${line.weight}, counted; share, made here: ${fractionText(share)}` : "",
-    votes: `${grouped(line?.weight ?? 0)}${share ? ` · ${percent(share, 2)} %` : ""}`,
+    place,
+    title: [h("span", { class: "chair-number" }, String(chair)), " ", h("bdi", {}, name), KIND_WORDS[kind]],
+    line,
+    words: "",
     members,
-    tail: chairButtons(app, chair, members.length === 0),
-    isNamed: isNamed(app, chair),
+    tail: isClosed ? null : () => chairButtons(app, chair, members.length === 0),
+    isNamed: !isClosed && isNamed(app, chair),
   };
 }
 
 /** The card of the members in no chair. */
 function noneCard(members: readonly Place[]): Card {
-  const votes = counted(members.length, "member");
-  return { place: "none", title: "In no chair", votes, source: "", members, tail: null, isNamed: false };
+  const words = counted(members.length, "member");
+  return { place: "none", title: "In no chair", line: null, words, members, tail: null, isNamed: false };
 }
 
 /** The card of a chair that could be opened. */
 function newCard(app: App, chair: number): Card {
   const act = () => app.take(withAdded(app.study, [{ kind: "open", chair }]));
-  const tail = button(`Open chair ${chair}`, act, { id: "open-new" });
-  return { place: "new", title: `New chair ${chair}`, votes: "", source: "", members: [], tail, isNamed: false };
+  const tail = () => button(`Open chair ${chair}`, act, { id: "open-new" });
+  return { place: "new", title: `New chair ${chair}`, line: null, words: "", members: [], tail, isNamed: false };
 }
 
-function cardsOf(app: App, shown: Shown): Card[] {
+function cardsOf(app: App, shown: Shown, { columns }: List): Card[] {
   const { standing } = shown.counted;
-  const open = standing.open();
-  const next = closedChair(open);
-  const cards = [...open.map((chair) => chairCard(app, shown, chair)), noneCard(standing.in(null))];
+  const next = closedChair(standing.open());
+  const cards = [...columns.lines.map((it) => chairCard(app, shown, it)), noneCard(standing.in(null))];
   return next === null ? cards : [...cards, newCard(app, next)];
+}
+
+/** Whether the tab that is shown is the list of chairs. */
+export function isList(tab: Tab): boolean {
+  return tab === "power" || tab === "change";
 }
 
 /** Paints the cards. A filter brings the cards in which it finds members to the top; the others are still targets. */
 export function paintChairs(app: App): void {
   if (!app.shown) return;
-  const cards = cardsOf(app, app.shown).map((it) => withFound(app, it));
+  const place = byId("chairs");
+  place.hidden = !isList(app.view.tab) || app.open.isPrinting;
+  if (place.hidden) return;
+  const shownList = listOf(app, app.shown);
+  const [wide, narrow] = widthsOf(shownList);
+  place.style.setProperty("--wide", wide);
+  place.style.setProperty("--narrow", narrow);
+  place.dataset["columns"] = shownList.columns.isOne ? "one" : "many";
+  place.dataset["changed"] = String(shownList.isChanged);
+  patch(byId("list-columns"), headOf(app, shownList));
+  patch(byId("grid"), gridOf(shownList));
+  const cards = cardsOf(app, app.shown, shownList).map((it) => withFound(app, it));
   const hits = cards.filter(isHit);
   const inOrder = isFiltered(app) ? [...hits, ...cards.filter((it) => !isHit(it))] : cards;
   const list = byId("cards");
-  keepFocus(list, () => byId("filter"), () => paint(list, inOrder.map((it) => cardElement(app, it))));
+  keepFocus(list, () => byId("filter"), () => patch(list, inOrder.map((it) => cardElement(app, it, shownList))));
   const isNone = isFiltered(app) && hits.length === 0;
   byId("filter-words").textContent = isNone ? "No member and no open chair has this code, name or number." : "";
 }

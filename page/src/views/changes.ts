@@ -2,21 +2,13 @@
 import { percentage, wholeNumber, type Typed } from "../amounts";
 import type { App } from "../app";
 import { changeWords, refusalWords } from "../commandWords";
-import { button, byId, h, paint } from "../dom";
+import { button, byId, h, type Child } from "../dom";
 import { keepFocus, setDisabled } from "../focus";
 import { operationDetails } from "../operationWords";
-import { isOperation, withChanges, type Change, type Percentage, type Scale } from "../study";
+import { patch } from "../patch";
+import { isOperation, withChanges, type Change, type Percentage, type Scale, type Study } from "../study";
 import { MOST_VOTES } from "../words";
-import { mark, readField, type Field } from "./field";
-
-/** An item that is on the page: its element, and the function that updates it. */
-interface Item {
-  readonly element: HTMLElement;
-  update(): void;
-}
-
-let items: readonly Item[] = [];
-let paintedFor = "";
+import { readField, type Field } from "./field";
 
 function set(app: App, changes: readonly Change[], gesture = ""): void {
   app.take(withChanges(app.study, changes), gesture);
@@ -64,9 +56,9 @@ function typed(what: Votes, text: string): Typed<Votes> {
   return "wrong" in found ? found : { value: { ...what, percent: found.value } };
 }
 
-/** The change of votes with a number, or null if there is none now. */
-function votesOf(app: App, id: number): Votes | null {
-  const what = app.study.changes.find((it) => it.id === id)?.what;
+/** The change of votes with a number in a study, or null if there is none. */
+function votesIn({ changes }: Study, id: number): Votes | null {
+  const what = changes.find((it) => it.id === id)?.what;
   if (what?.kind === "percent" || what?.kind === "scale") return what;
   return what?.kind === "votes" ? { kind: "votes", code: what.code ?? "", votes: what.votes ?? 0 } : null;
 }
@@ -80,134 +72,117 @@ interface Range {
   readonly text: string;
 }
 
+/** A number, doubled until it is at least another one. */
+function doubled(number: number, least: number): number {
+  return number < least ? doubled(2 * number, least) : number;
+}
+
+/** The range has room for the number. It stays while the slider moves: then the number before that counts. */
 function rangeOf(app: App, id: number): Range | null {
-  const what = votesOf(app, id);
+  const what = votesIn(app.study, id);
   if (!what) return null;
   const text = numberText(what);
   const value = String(Number(text));
+  const size = Math.abs(Number(numberText(votesIn(app.history.resting, id) ?? what)));
   if (what.kind !== "votes") {
-    const size = Math.ceil(Math.abs(Number(text)));
     const [min, most] = isStep(what) ? [-100, 100] : [0, 50];
-    return { min, max: Math.max(most, size), step: 0.1, value, text };
+    return { min, max: doubled(most, size), step: 0.1, value, text };
   }
   const outcome = app.shown?.counted.outcomes.get(id);
   const before = outcome?.kind === "accepted" ? outcome.before[0]?.votes ?? 0 : 0;
-  return { min: 0, max: Math.min(MOST_VOTES, 2 * Math.max(before, what.votes, 50)), step: 1, value, text };
+  return { min: 0, max: Math.min(MOST_VOTES, doubled(2 * Math.max(before, 50), size)), step: 1, value, text };
 }
 
 /** The box for the number of a change of votes: its text is read when it is left, or at Enter. */
-function numberBox(app: App, id: number, value: string): Field<Votes> {
+function numberBox(app: App, id: number, value: string, label: string): Field<Votes> {
   const read = (text: string): Typed<Votes> => {
-    const what = votesOf(app, id);
+    const what = votesIn(app.study, id);
     return what ? typed(what, text) : { wrong: "This change is no longer in the list." };
   };
-  const field = readField(`number-${id}`, "", read, { value, inputmode: "decimal" });
-  field.input.addEventListener("change", () => {
+  const onchange = () => {
     const what = field.check();
-    if (what && numberText(what) !== numberText(votesOf(app, id) ?? what)) replaced(app, id, { what });
-  });
+    if (what && numberText(what) !== numberText(votesIn(app.study, id) ?? what)) replaced(app, id, { what });
+  };
+  const attributes = { value, inputmode: "decimal", "aria-label": label, live: true, onchange };
+  const field = readField(`number-${id}`, "", read, attributes);
   return field;
 }
 
 /** A slider and a number box for the votes of a change. */
-function slider(app: App, id: number): Item | null {
-  const first = rangeOf(app, id);
-  if (!first) return null;
-  const { min, max, step } = first;
-  const box = numberBox(app, id, first.text);
+function slider(app: App, id: number, words: string): Child {
+  const found = rangeOf(app, id);
+  if (!found) return null;
+  const { min, max, step, value, text } = found;
+  const box = numberBox(app, id, text, `Number: ${words}`);
   const slide = () => {
-    const present = votesOf(app, id);
-    mark(box.input, box.wrong, "");
+    const present = votesIn(app.study, id);
     if (present) replaced(app, id, { what: slid(present, Number(range.value)) }, `slide-${id}`);
   };
   const rest = () => app.history.rest();
-  const attributes = { id: `slide-${id}`, min, max, step, oninput: slide, onchange: rest };
-  const range: HTMLInputElement = h("input", { type: "range", ...attributes });
-  range.value = first.value;
-  let shown = first.text;
-  const update = () => {
-    const next = rangeOf(app, id);
-    const words = byId(`words-${id}`).textContent ?? "";
-    range.setAttribute("aria-label", `Slider: ${words}`);
-    box.input.setAttribute("aria-label", `Number: ${words}`);
-    if (!next) return;
-    if (next.text !== shown) mark(box.input, box.wrong, "");
-    shown = next.text;
-    if (range !== document.activeElement) range.value = next.value;
-    const isTyped = box.input === document.activeElement || box.input.hasAttribute("aria-invalid");
-    if (!isTyped) box.input.value = next.text;
-  };
-  return { element: h("div", {}, h("span", { class: "slider" }, range, box.input), box.wrong), update };
+  const range: HTMLInputElement = h("input", {
+    type: "range", id: `slide-${id}`, min, max, step, value, "aria-label": `Slider: ${words}`, live: true,
+    oninput: slide, onchange: rest,
+  });
+  return h("div", {}, h("span", { class: "slider" }, range, box.input), box.wrong);
 }
 
-/** The buttons of an item: their words and elements. */
-function actsOf(app: App, id: number, at: number, many: number): readonly (readonly [string, HTMLElement])[] {
+/** The buttons of an item. */
+function actsOf(app: App, id: number, words: string, at: number, many: number): HTMLElement[] {
   const remove = () => set(app, app.study.changes.filter((it) => it.id !== id));
-  const up = { id: `up-${id}`, title: "Move up", disabled: at === 0 };
-  const down = { id: `down-${id}`, title: "Move down", disabled: at === many - 1 };
+  const act = (sign: string, what: string, name: string, run: () => void, disabled: boolean) =>
+    button(sign, run, { id: `${name}-${id}`, class: "quiet", title: what, "aria-label": `${what}: ${words}`, disabled,
+      live: true });
   return [
-    ["Move up", button("↑", () => moved(app, id, -1), up)],
-    ["Move down", button("↓", () => moved(app, id, 1), down)],
-    ["Remove", button("✕", remove, { id: `remove-${id}`, title: "Remove" })],
+    act("↑", "Move up", "up", () => moved(app, id, -1), at === 0),
+    act("↓", "Move down", "down", () => moved(app, id, 1), at === many - 1),
+    act("✕", "Remove", "remove", remove, false),
   ];
 }
 
-function itemOf(app: App, change: Change, at: number, many: number): Item {
-  const { id } = change;
-  const words = h("span", { id: `words-${id}` });
-  const refusal = h("p", { class: "refusal" });
+function itemOf(app: App, change: Change, at: number, many: number): HTMLElement {
+  const { id, what } = change;
+  const { outcomes, opening } = app.shown?.counted ?? {};
+  const outcome = outcomes?.get(id);
+  const words = opening ? changeWords(change, outcome, opening) : "";
+  const title = opening && isOperation(what) ? operationDetails(what, outcome, opening) : "";
   const toggle = () => replaced(app, id, { on: tick.checked });
-  const tick: HTMLInputElement = h("input", { type: "checkbox", id: `on-${id}`, checked: change.on, onchange: toggle });
-  const acts = actsOf(app, id, at, many);
-  const moving = slider(app, id);
-  const element = h("li", { class: "change", "data-id": id },
-    h("label", { class: "change-words" }, tick, words),
-    refusal,
-    moving?.element ?? null,
-    h("span", { class: "change-buttons" }, acts.map(([, it]) => it)),
+  const tick: HTMLInputElement = h("input", {
+    type: "checkbox", id: `on-${id}`, checked: change.on, live: true, onchange: toggle,
+  });
+  const refusal = refusalWords(outcome, opening);
+  return h("li", { class: "change", "data-id": id, "data-key": id, "data-state": outcome?.kind ?? "off" },
+    h("div", { class: "change-head" },
+      h("label", { class: "change-words" }, tick, h("span", { id: `words-${id}`, title }, words)),
+      h("span", { class: "change-buttons" }, actsOf(app, id, words, at, many)),
+    ),
+    refusal && h("p", { class: "refusal" }, refusal),
+    slider(app, id, words),
   );
-  const update = () => {
-    const { shown } = app;
-    const one = app.study.changes.find((it) => it.id === id) ?? change;
-    const outcome = shown?.counted.outcomes.get(id);
-    element.dataset["state"] = outcome?.kind ?? "off";
-    words.textContent = shown ? changeWords(one, outcome, shown.counted.opening) : "";
-    words.title = shown && isOperation(one.what) ? operationDetails(one.what, outcome, shown.counted.opening) : "";
-    refusal.textContent = refusalWords(outcome, shown?.counted.opening);
-    refusal.hidden = refusal.textContent === "";
-    for (const [act, it] of acts) it.setAttribute("aria-label", `${act}: ${words.textContent}`);
-    moving?.update();
-  };
-  return { element, update };
 }
 
 /** Paints the items. If the focused control goes, another one of its change has the focus, or else of the next one. */
-function paintItems(): void {
+function paintItems(app: App): void {
+  const { changes } = app.study;
   const list = byId("changes");
   const at = [...list.children].findIndex((it) => it.contains(document.activeElement));
   const id = list.children[at]?.getAttribute("data-id");
   const heir = () => {
-    const same = items.find((it) => it.element.dataset["id"] === id)?.element;
-    const control = same?.querySelector<HTMLElement>("button:enabled");
-    return control ?? items[at]?.element.querySelector<HTMLElement>("[id^=remove-]") ?? byId("changes-title");
+    const control = list.querySelector<HTMLElement>(`[data-id="${id}"] button:enabled`);
+    return control ?? list.children[at]?.querySelector<HTMLElement>("[id^=remove-]") ?? byId("changes-title");
   };
-  keepFocus(list, heir, () => paint(list, items.map((it) => it.element)));
+  keepFocus(list, heir, () => patch(list, changes.map((it, place) => itemOf(app, it, place, changes.length))));
 }
 
 /** Paints the list of changes, and the choices made when the table was read. */
 export function paintChanges(app: App): void {
   const { changes, base } = app.study;
-  const key = changes.map(({ id, on, what }) => `${id}:${on}:${what.kind}`).join();
-  if (key !== paintedFor) {
-    items = changes.map((it, at) => itemOf(app, it, at, changes.length));
-    paintedFor = key;
-    paintItems();
-  }
-  for (const item of items) item.update();
+  paintItems(app);
   byId("no-changes").hidden = changes.length > 0;
+  byId("changes-title").textContent = changes.length ? `Changes (${changes.length})` : "Changes";
   setDisabled(byId("clear-changes"), changes.length === 0, byId("changes-title"));
+  byId("clear-changes").hidden = changes.length === 0;
   const choices = byId("choices");
-  paint(choices, base.choices.map((it) => h("li", {}, it)));
+  patch(choices, base.choices.map((it) => h("li", {}, it)));
   // It can be scrolled by keyboard.
   choices.tabIndex = base.choices.length ? 0 : -1;
 }

@@ -24,9 +24,13 @@ export function openCitation(app: App): void {
   openDialog("cite", "How to cite", () => {
     const place = h("div", {});
     const said = h("p", { id: "cite-words", role: "status" });
-    void citation(app, shown).then(({ text, bibtex }) => {
+    const made = citation(app, shown).then(({ text, bibtex }) => {
       const children = [part("Text", "cite-text", text, said), part("BibTeX", "cite-bibtex", bibtex, said)];
       place.append(h("div", {}, children), said);
+    });
+    made.catch((why: unknown) => {
+      const words = why instanceof Error ? why.message : String(why);
+      place.append(h("p", { class: "wrong", role: "alert" }, `It can't be cited: ${words}`));
     });
     return place;
   });

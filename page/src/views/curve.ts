@@ -8,6 +8,7 @@ import { button, byId, choice, h, paint, type Child } from "../dom";
 import { fractionText, grouped, percent } from "../fractions";
 import { screenLook } from "../look";
 import { isolated } from "../names";
+import { patch } from "../patch";
 import { chairIn, measureOf, readings, voteShare } from "../reading";
 import type { SweepAsked } from "../study";
 import { MAJORITY, MEASURE } from "../words";
@@ -30,10 +31,12 @@ function run(app: App, asked: SweepAsked): void {
   else app.take({ ...app.study, sweep: asked });
 }
 
+/** The form. Its fields are read when they are used, so that it can stay while the board changes. */
 function form(app: App, shown: Shown): HTMLElement {
-  let asked = fieldsOf(app, shown);
+  const now = () => fieldsOf(app, app.shown ?? shown);
+  const asked = now();
   const set = (part: Partial<SweepAsked>) => {
-    app.open.sweep = asked = { ...asked, ...part };
+    app.open.sweep = { ...now(), ...part };
   };
   const number = (id: "from" | "to" | "by", label: string) => {
     const input: HTMLInputElement = h("input", {
@@ -44,6 +47,7 @@ function form(app: App, shown: Shown): HTMLElement {
       pattern: "[0-9]{1,13}(\\.[0-9]{1,9})?",
       title: "a number without a sign, such as 10 or 0.5",
       value: asked[id],
+      live: true,
       oninput: () => set({ [id]: input.value.trim() }),
     });
     return h("label", { class: "choice", for: `sweep-${id}` }, h("span", {}, label), input);
@@ -51,9 +55,9 @@ function form(app: App, shown: Shown): HTMLElement {
   const options = whoOptions(standingOn(shown, asked.on));
   const submit = (event: Event) => {
     event.preventDefault();
-    run(app, asked);
+    run(app, now());
   };
-  return h("form", { class: "choices", id: "sweep", onsubmit: submit },
+  return h("form", { class: "choices", id: "sweep", live: true, onsubmit: submit },
     choice("sweep-who", "Sweep", options, whoKey(asked.who), (it) => set({ who: whoOf(it) })),
     choice("sweep-on", "on", [["base", "the base"], ["changed", "the changed board"]], asked.on, (it) => {
       set({ on: it === "base" ? "base" : "changed" });
@@ -68,7 +72,7 @@ function form(app: App, shown: Shown): HTMLElement {
       (it) => set({ unit: it === "votes" ? "votes" : "percent" }),
     ),
     h("button", { id: "sweep-run" }, "Count the sweep"),
-    button("Find thresholds…", () => openThresholds(app, asked.who, asked.on), { id: "find-open" }),
+    button("Find thresholds…", () => openThresholds(app, now().who, now().on), { id: "find-open", live: true }),
   );
 }
 
@@ -144,18 +148,18 @@ function sweepWords(app: App): string {
   return `${points} were counted in ${sweep.milliseconds.toFixed(0)} ms${workers}.`;
 }
 
+/** Paints the tab. Its form stays while the board changes; what it says is made anew. */
 export function paintCurve(app: App): void {
   const { shown, curve } = app;
   if (!shown) return;
   const model = curveModel(app);
-  const chart = h("div", { class: "chart" });
   const panel = byId("panel");
   panel.dataset["sweep"] = curve ? curve.milliseconds.toFixed(0) : "";
-  paint(panel,
-    form(app, shown),
-    h("p", { id: "sweep-words", role: "status" }, sweepWords(app)),
-    model && curve ? [results(app, model, curve), chart, tableOf(app, model, curve), source(curve)] : null,
-  );
+  if (!panel.firstChild) paint(panel, ["sweep-form", "sweep-results"].map((id) => h("div", { id })));
+  patch(byId("sweep-form"), form(app, shown), h("p", { id: "sweep-words", role: "status" }, sweepWords(app)));
+  const chart = h("div", { class: "chart" });
+  paint(byId("sweep-results"),
+    model && curve && [results(app, model, curve), chart, tableOf(app, model, curve), source(curve)]);
   if (model) drawCurve(chart, model, screenLook(app, chart));
 }
 

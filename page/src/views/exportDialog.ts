@@ -1,7 +1,6 @@
 /** The dialog of exports: figure, table, sentences, the whole study, citation. Each has version and hash. */
 import type { App, Shown } from "../app";
 import { copy } from "../clipboard";
-import { chairRows } from "../compare";
 import { openDialog } from "../dialogs";
 import { button, byId, h, save, type Child } from "../dom";
 import { fileName, textFile } from "../exportFile";
@@ -40,14 +39,14 @@ async function studyText(app: App, shown: Shown): Promise<string> {
 export async function saveStudy(app: App): Promise<void> {
   const shown = await app.whole();
   save(`${fileName(app)}.study.json`, textFile(`${await studyText(app, shown)}\n`, "application/json"));
-  app.savedStudy = shown.study;
+  app.keepSaved(shown.study);
 }
 
 /** Saves the page with the study in it. */
 async function savePage(app: App): Promise<void> {
   const shown = await app.whole();
   save(`${fileName(app)}.html`, textFile(pageText(await studyText(app, shown)), "text/html"));
-  app.savedStudy = shown.study;
+  app.keepSaved(shown.study);
 }
 
 async function copyShown(app: App, text: (app: App) => Promise<string>): Promise<string> {
@@ -143,7 +142,7 @@ export function openExports(app: App): void {
   const content: Readonly<Record<Group, Child>> = {
     Figure: figureGroup(app, shown, make),
     Table: tableGroup(app, make),
-    Sentences: sentenceList(app, chairRows(shown.counted, app.view), "export-sentence", say),
+    Sentences: sentenceList(app, "export-sentence", say),
     "Whole study": studyGroup(app, make),
     Citation: citationGroup(app),
   };

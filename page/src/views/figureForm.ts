@@ -1,19 +1,9 @@
 /** The choices of a figure for an export: its width, its typeface, its title, and the resolution of a picture. */
 import { choice, h, type Child } from "../dom";
 import type { FigureChoice } from "../exportFigure";
-import { RESOLUTION, resolutionOf, WIDTHS, widthOf, type Width } from "../figureSize";
-import { FAMILIES, fontName, isInstalled, namedFamily, type Family } from "../typeface";
+import { MOST_HEIGHT, resolutionOf, WIDTHS, widthOf, type FigureChosen } from "../figureSize";
+import { FAMILIES, fontName, isInstalled, namedFamily } from "../typeface";
 import { readField, type Field } from "./field";
-
-/** What was chosen last, for the next figure. */
-const kept = {
-  width: "double" as Width | "own",
-  ownWidth: "120 mm",
-  typeface: "sans" as Family | "own",
-  font: "",
-  resolution: String(RESOLUTION),
-  hasTitle: true,
-};
 
 export interface FigureForm {
   readonly children: Child;
@@ -38,8 +28,14 @@ function valueOf<Value>(field: Field<Value>, isAsked: boolean): Value | null {
   return isAsked ? field.read() : field.check();
 }
 
+/** A part of the form, and how it is read. */
+interface Part<Value> {
+  readonly children: Child;
+  read(isAsked: boolean): Value | null;
+}
+
 /** The list of widths, and the field of another one. */
-function widthPart(changed: () => void): { children: Child; read(isAsked: boolean): number | null } {
+function widthPart(kept: FigureChosen, changed: () => void): Part<number> {
   const field = readField("own-width", "Width, in mm or cm", widthOf, { value: kept.ownWidth, size: 8 });
   const box = fieldBox(field, kept.width === "own");
   field.input.addEventListener("change", () => {
@@ -47,7 +43,7 @@ function widthPart(changed: () => void): { children: Child; read(isAsked: boolea
     changed();
   });
   const list = choice("figure-width", "Width", optionsOf(WIDTHS, "Another width"), kept.width, (it) => {
-    kept.width = it as typeof kept.width;
+    kept.width = it as FigureChosen["width"];
     box.hidden = kept.width !== "own";
     changed();
   });
@@ -56,7 +52,7 @@ function widthPart(changed: () => void): { children: Child; read(isAsked: boolea
 }
 
 /** The list of typefaces, and the field for the name of an installed font. */
-function typefacePart(changed: () => void): { children: Child; read(isAsked: boolean): string | null } {
+function typefacePart(kept: FigureChosen, changed: () => void): Part<string> {
   const field = readField("font-name", "Name of an installed font", fontName, { value: kept.font, size: 14 });
   const box = fieldBox(field, kept.typeface === "own");
   const missing = h("p", { id: "font-missing", class: "note", role: "status" });
@@ -65,7 +61,7 @@ function typefacePart(changed: () => void): { children: Child; read(isAsked: boo
     changed();
   });
   const list = choice("typeface", "Typeface", optionsOf(FAMILIES, "An installed font"), kept.typeface, (it) => {
-    kept.typeface = it as typeof kept.typeface;
+    kept.typeface = it as FigureChosen["typeface"];
     box.hidden = kept.typeface !== "own";
     changed();
   });
@@ -82,9 +78,9 @@ function typefacePart(changed: () => void): { children: Child; read(isAsked: boo
   return { children: [list, box, missing], read };
 }
 
-/** The form. A function is called when a choice has changed. */
-export function figureForm(changed: () => void): FigureForm {
-  const [width, face] = [widthPart(changed), typefacePart(changed)];
+/** The form for what is kept. A function is called when a choice has changed. */
+export function figureForm(kept: FigureChosen, changed: () => void): FigureForm {
+  const [width, face] = [widthPart(kept, changed), typefacePart(kept, changed)];
   const resolution = readField("resolution", "Resolution of a PNG, dpi", resolutionOf, {
     value: kept.resolution, inputmode: "numeric", size: 5,
   });
@@ -98,7 +94,8 @@ export function figureForm(changed: () => void): FigureForm {
   const read = (isAsked: boolean): FigureChoice | null => {
     const [millimetres, family] = [width.read(isAsked), face.read(isAsked)];
     if (millimetres === null || family === null) return null;
-    return { width: millimetres, family, hasTitle: title.checked };
+    const most = kept.width === "own" ? MOST_HEIGHT : WIDTHS[kept.width].most;
+    return { width: millimetres, most, family, hasTitle: title.checked };
   };
   const children = [
     h("div", { class: "choices" }, width.children, face.children),

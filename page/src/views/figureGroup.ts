@@ -3,7 +3,6 @@ import type { App, Shown } from "../app";
 import { h, paint, save, type Child } from "../dom";
 import { fileName, textFile } from "../exportFile";
 import { figureOfTab, hasFigure, svgText, type DrawnFigure, type FigureChoice } from "../exportFigure";
-import { WIDTHS } from "../figureSize";
 import { pngOf } from "../png";
 import { printFigure } from "../printFigure";
 import { figureForm } from "./figureForm";
@@ -20,15 +19,8 @@ const NO_FIGURE = "There is no figure on this tab now: Power, Change and Curve h
 const PDF_WORDS =
   "PDF: the browser's print dialog opens with this figure alone. Choose “Save as PDF”; the page has the figure's size.";
 
-/** The heights of what a figure is put on, in millimetres. */
-const [SLIDE, PAGE] = [
-  { height: 143, words: "a slide of 16 by 9" },
-  { height: 297, words: "a page of A4" },
-];
-
-function sizeWords({ width, height }: DrawnFigure): string {
-  const most = width === WIDTHS.slide.width ? SLIDE : PAGE;
-  const high = height > most.height ? ` It is higher than ${most.words}: fewer majorities make it lower.` : "";
+function sizeWords({ width, height, most }: DrawnFigure): string {
+  const high = height > most + 0.5 ? ` It is higher than ${most.toFixed(0)} mm: fewer majorities make it lower.` : "";
   return `${width} mm wide, ${height} mm high; the text has 9 points at every width.${high}`;
 }
 
@@ -53,7 +45,7 @@ export function figureGroup(app: App, shown: Shown, make: Exporter): Child {
     words.textContent = "";
     if (choice) drawing.then((draw) => show(draw(choice)), (why: unknown) => (words.textContent = String(why)));
   };
-  const form = figureForm(redraw);
+  const form = figureForm(app.open.figure, redraw);
   redraw();
   const withFigure = (act: (figure: DrawnFigure) => string | void | Promise<void>) => async () => {
     const choice: FigureChoice | null = form.read(true);

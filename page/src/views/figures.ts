@@ -1,23 +1,24 @@
 /** The figures in the middle: the choices above them, the sentences, and the chart or table of the tab. */
 import type { App } from "../app";
 import type { Look } from "../charts";
+import { drawGains, drawPower, type ChairModel } from "../chairChart";
 import { columnsOf, hasGains, type Columns } from "../columns";
-import { chairRows } from "../compare";
-import { byId, choice, h, paint } from "../dom";
+import { byId, choice, h, paint, type Child } from "../dom";
 import { grouped } from "../fractions";
-import { powerModel, screenLook } from "../look";
-import { drawGains } from "../gainChart";
-import { drawPower, type PowerModel } from "../powerChart";
-import { chairTable, rowWords } from "./chairTable";
-import { chartPlace, readout, tableBehind } from "./chartParts";
+import { chairModel, screenLook } from "../look";
+import { patch } from "../patch";
+import { chairTable } from "./chairTable";
+import { tableBehind } from "./chartParts";
+import { isList } from "./chairs";
 import { paintCoalition } from "./coalition";
 import { paintCurve } from "./curve";
+import { markOf, SHORT } from "./rows";
 import { paintSentences } from "./sentences";
 import { MOST_STEPS } from "../steps";
 import {
-  AGAINST, COLUMNS, ORDERS, TABS, type Against, type ColumnsShown, type Order, type Tab,
+  AGAINST, COLUMNS, ORDERS, TABS, THINGS, type Against, type ColumnsShown, type Order, type Tab, type Thing,
 } from "../study";
-import { MAJORITIES, MAJORITY, measureTitle, MEASURES, type Majority, type Measure } from "../words";
+import { MAJORITIES, MAJORITY, MEASURE, measureTitle, MEASURES, type Majority, type Measure } from "../words";
 
 const ORDER_WORDS: Readonly<Record<Order, string>> = {
   number: "number",
@@ -33,57 +34,79 @@ const COLUMN_WORDS: Readonly<Record<ColumnsShown, string>> = {
 };
 const AGAINST_WORDS: Readonly<Record<Against, string>> = { base: "the base", before: "the column before" };
 
-/** Paints figures for paper, or for the screen again. */
-export function paintForPaper(app: App, isPaper: boolean): void {
-  app.open.isPrinting = isPaper;
-  paintFigures(app);
-}
-
-function tickMajority(app: App, majority: Majority, isOn: boolean): void {
-  const majorities = MAJORITIES.filter((it) => (it === majority ? isOn : app.view.majorities.includes(it)));
-  if (!majorities.length) return app.repaint();
+/** Shows a majority, or doesn't any more. The last one stays. */
+function switchMajority(app: App, majority: Majority): void {
+  const shown = app.view.majorities;
+  const majorities = MAJORITIES.filter((it) => (it === majority) !== shown.includes(it));
+  if (!majorities.length) return;
   const orderAt = majorities.includes(app.view.orderAt) ? app.view.orderAt : majorities[0] ?? "half";
   app.look({ majorities, orderAt });
 }
 
+/** The majorities as buttons that are pressed or not. */
+function majorityButtons(app: App): HTMLElement {
+  const { view } = app;
+  const buttons = MAJORITIES.map((majority) => {
+    const isOn = view.majorities.includes(majority);
+    const words = [markOf(majority), SHORT[majority].replace(" %", "\u00a0%")];
+    return h("button", {
+      type: "button", id: `at-${majority}`, "aria-pressed": String(isOn), "aria-label": MAJORITY[majority].label,
+      title: `${MAJORITY[majority].label}: ${MAJORITY[majority].rule}`, live: true,
+      onclick: () => switchMajority(app, majority),
+    }, words);
+  });
+  return h("span", { class: "segments", role: "group", "aria-label": "Majorities" }, buttons);
+}
+
 function paintChoices(app: App): void {
   const { view } = app;
-  const boxes = MAJORITIES.map((majority) => {
-    const box: HTMLInputElement = h("input", {
-      type: "checkbox",
-      id: `at-${majority}`,
-      checked: view.majorities.includes(majority),
-      onchange: () => tickMajority(app, majority, box.checked),
-    });
-    return h("label", { title: MAJORITY[majority].rule }, box, MAJORITY[majority].label);
-  });
-  const measures = MEASURES.map((it): [string, string] => [it, measureTitle(it)]);
+  const measures = MEASURES.map((it): [string, string] => [it, MEASURE[it].label]);
   const orders = ORDERS.map((it): [string, string] => [it, ORDER_WORDS[it]]);
   const ats = view.majorities.map((it): [string, string] => [it, MAJORITY[it].label]);
   const digits = [0, 1, 2, 3, 4, 6, 8, 10].map((it): [string, string] => [String(it), String(it)]);
-  paint(
-    byId("choose"),
-    h("fieldset", { class: "boxes" }, h("legend", {}, "Majorities"), boxes),
-    choice("measure", "Measure", measures, view.measure, (it) => app.look({ measure: it as Measure })),
-    h("span", { class: "pair" },
+  const measure = choice("measure", "Measure", measures, view.measure, (it) => app.look({ measure: it as Measure }));
+  measure.title = measureTitle(view.measure);
+  const display = h("details", { id: "display", class: "menu" },
+    h("summary", {}, "Display"),
+    h("div", { class: "menu-body" },
       choice("order", "Order by", orders, view.order, (it) => app.look({ order: it as Order })),
       choice("order-at", "at", ats, view.orderAt, (it) => app.look({ orderAt: it as Majority })),
+      choice("digits", "Digits", digits, String(view.digits), (it) => app.look({ digits: Number(it) })),
+      columnChoices(app),
+      tableChoices(app),
     ),
-    choice("digits", "Digits", digits, String(view.digits), (it) => app.look({ digits: Number(it) })),
-    columnChoices(app),
   );
+  patch(byId("choose"), measure, majorityButtons(app), display);
+}
+
+const THING_WORDS: Readonly<Record<Thing, string>> = {
+  added: "what is added", ratio: "power over votes", votes: "votes", share: "share of votes",
+};
+
+/** What the table of chairs has beside the power. */
+function tableChoices(app: App): Child {
+  const boxes = THINGS.map((thing) => {
+    const onchange = () => {
+      const hidden = app.view.hidden.filter((it) => it !== thing);
+      app.look({ hidden: box.checked ? hidden : [...hidden, thing] });
+    };
+    const checked = !app.view.hidden.includes(thing);
+    const box: HTMLInputElement = h("input", { type: "checkbox", id: `table-${thing}`, checked, live: true, onchange });
+    return h("label", {}, box, THING_WORDS[thing]);
+  });
+  return h("fieldset", { class: "boxes" }, h("legend", {}, "In the table"), boxes);
 }
 
 /** The choices of columns. */
-function columnChoices(app: App): HTMLElement {
+function columnChoices(app: App): Child {
   const { view } = app;
   const columns = COLUMNS.map((it): [string, string] => [it, COLUMN_WORDS[it]]);
   const against = AGAINST.map((it): [string, string] => [it, AGAINST_WORDS[it]]);
   const isOne = view.columns === "changed";
-  return h("span", { class: "pair" },
+  return [
     choice("columns", "Columns", columns, view.columns, (it) => app.look({ columns: it as ColumnsShown })),
     isOne ? null : choice("against", "less", against, view.against, (it) => app.look({ against: it as Against })),
-  );
+  ];
 }
 
 /** Why a view has no columns of its own now, or which are missing. */
@@ -109,53 +132,52 @@ function paintTabs(app: App): void {
       byId(`tab-${next}`).focus();
     };
     return h("button", {
-      type: "button", role: "tab", id: `tab-${tab}`, "aria-selected": String(isOn), "aria-controls": "panel",
-      tabindex: isOn ? 0 : -1, onclick: () => app.look({ tab }), onkeydown: keys,
+      type: "button", role: "tab", id: `tab-${tab}`, "aria-selected": String(isOn),
+      "aria-controls": isList(tab) ? "chairs" : "panel",
+      tabindex: isOn ? 0 : -1, live: true, onclick: () => app.look({ tab }), onkeydown: keys,
     }, TAB[tab].words);
   });
-  paint(byId("tabs"), tabs);
+  patch(byId("tabs"), tabs);
   byId("panel").setAttribute("aria-labelledby", `tab-${app.view.tab}`);
 }
 
-type Draw = (place: Element, model: PowerModel, look: Look) => void;
+type Draw = (place: Element, model: ChairModel, look: Look) => void;
 
-/** Paints a chart of the chairs, the readout, and the table of the chart, which is made once it is opened. */
-function paintChart(app: App, columns: Columns, draw: Draw): void {
-  const model = powerModel(app, columns);
-  const chart = chartPlace("Chart of the chairs; arrow keys go through its rows");
-  const box = readout(chart, {
-    attribute: "data-chair",
-    keys: columns.lines.map((it) => String(it.chair)),
-    first: "Point at a row, or use the arrow keys: its exact fractions appear here.",
-    words: (at) => columns.lines.slice(at, at + 1).map((it) => rowWords(it, columns, app.view)),
-  });
-  paint(byId("panel"), box, chart, tableBehind(app, () => chairTable(app, columns)));
+/** What is under the list of chairs: its table, once that is opened; on paper the chart and the table instead of it. */
+function paintUnderList(app: App, columns: Columns, draw: Draw): void {
+  const panel = byId("panel");
+  if (!app.open.isPrinting) return patch(panel, tableBehind(app, () => chairTable(app, columns)));
+  const model = chairModel(app, columns);
+  const chart = h("div", { class: "chart" });
+  paint(panel, chart, chairTable(app, columns));
   if (model.majorities.length) draw(chart, model, screenLook(app, chart));
-  else chart.remove();
 }
 
 function paintGains(app: App, columns: Columns): void {
-  if (app.shown && hasGains(app, app.shown)) paintChart(app, columns, drawGains);
-  else paint(byId("panel"), h("p", {}, "No change was carried out yet: changed and base are the same."));
+  if (app.shown && hasGains(app, app.shown)) return paintUnderList(app, columns, drawGains);
+  paint(byId("panel"), h("p", { class: "note" }, "No change was carried out yet: changed and base are the same."));
 }
 
-/** The tabs: their words, and what they show. */
+/** The tabs: their words, and what they show beside the list of chairs or instead of it. */
 const TAB: Readonly<Record<Tab, { words: string; draw(app: App, columns: Columns): void }>> = {
-  power: { words: "Power", draw: (app, columns) => paintChart(app, columns, drawPower) },
+  power: { words: "Power", draw: (app, columns) => paintUnderList(app, columns, drawPower) },
   change: { words: "Change", draw: paintGains },
   curve: { words: "Curve", draw: paintCurve },
-  table: { words: "Table", draw: (app, columns) => paint(byId("panel"), chairTable(app, columns)) },
+  table: { words: "Table", draw: (app, columns) => patch(byId("panel"), chairTable(app, columns)) },
   coalition: { words: "Coalition", draw: paintCoalition },
 };
 
 export function paintFigures(app: App): void {
-  const { shown, view } = app;
+  const { shown, view, results, open } = app;
   if (!shown) return;
-  paintChoices(app);
-  paintTabs(app);
-  const rows = chairRows(shown.counted, view);
-  paintSentences(app, rows);
+  const { majorities, measure, digits, tab } = view;
+  app.part("choices", [view], () => paintChoices(app));
+  app.part("tabs", [tab], () => paintTabs(app));
+  app.part("sentences", [shown, majorities, measure, digits], () => paintSentences(app));
   const columns = columnsOf(app, shown);
-  paint(byId("columns-words"), columnsNote(app, columns));
-  TAB[view.tab].draw(app, columns);
+  byId("columns-words").textContent = columnsNote(app, columns);
+  app.part("tab", [tab, open.isPrinting], () => byId("panel").replaceChildren());
+  const isDark = matchMedia("(prefers-color-scheme: dark)").matches;
+  const look = [innerWidth, isDark, open.isPrinting, open.isTableOpen];
+  app.part("panel", [shown, view, results.version, app.sweep, ...look], () => TAB[tab].draw(app, columns));
 }

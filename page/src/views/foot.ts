@@ -48,9 +48,14 @@ function given({ study }: App): Child {
   return columns.length ? h("p", {}, `The table's columns: ${columns.join("; ")}.`) : null;
 }
 
+/** Whether the script and its lines are open. */
+export function isSourceOpen(): boolean {
+  return document.querySelector<HTMLDetailsElement>("#source")?.open ?? false;
+}
+
 /** The script and its lines, filled when they are opened. */
 function source(app: App): HTMLElement {
-  const wasOpen = document.querySelector<HTMLDetailsElement>("#source")?.open ?? false;
+  const wasOpen = isSourceOpen();
   const script = h("pre", { id: "script-text", tabindex: 0, role: "region", "aria-label": "Script" });
   const lines = h("pre", { id: "lines-text", tabindex: 0, role: "region", "aria-label": "Lines" });
   const details = h(
@@ -92,11 +97,15 @@ export function openSeal(app: App): void {
   if (!shown) return;
   openDialog("seal-dialog", "Where the numbers come from", () => {
     const list = h("ul", { id: "provenance" });
-    void provenanceOf(app, shown, [studySource(shown)]).then((found) => {
-      list.append(...firstLines(found).map((it) => h("li", {}, it)));
-    });
     const checks = h("ul", { id: "checks" }, checkItem(app.isOwnModule, MODULE_WORDS));
-    void app.counter.isGiven(shown.counted).then((isGiven) => checks.append(checkItem(isGiven, SCRIPT_WORDS)));
+    const failed = (place: HTMLElement, what: string) => (why: unknown) =>
+      place.append(h("li", { class: "wrong" }, `${what}: ${why instanceof Error ? why.message : String(why)}`));
+    provenanceOf(app, shown, [studySource(shown)])
+      .then((found) => list.append(...firstLines(found).map((it) => h("li", {}, it))))
+      .catch(failed(list, "The sources can't be shown"));
+    app.counter.isGiven(shown.counted)
+      .then((isGiven) => checks.append(checkItem(isGiven, SCRIPT_WORDS)))
+      .catch(failed(checks, "The script wasn't replayed"));
     return [
       list,
       h("h3", {}, "Checks that this page made of these numbers"),

@@ -1,8 +1,10 @@
 /** Named scenarios in their order: the greatest gain and the greatest loss of each at each majority. */
 import type { App } from "../app";
-import { chairRows, emptySentence, extremeCell, measureWords, type Said } from "../compare";
-import { button, byId, h, paint, type Child } from "../dom";
+import { MEASURE_NAMES } from "../cited";
+import { chairRows, emptySentence, extremeCell, type Said } from "../compare";
+import { button, byId, h, type Child } from "../dom";
 import { isolated } from "../names";
+import { patch } from "../patch";
 import { freshId, withChanges, type Scenario, type Study } from "../study";
 import { MAJORITY } from "../words";
 
@@ -29,26 +31,32 @@ function earlier(study: Study, scenario: Scenario): Study {
   return { ...study, scenarios };
 }
 
+/** The buttons of a scenario, which find it by its name in the study as it is when they are pressed. */
+function buttons(app: App, { name }: Scenario, isFirst: boolean): HTMLElement {
+  const act = (words: string, what: string, change: (study: Study, scenario: Scenario) => Study, disabled = false) => {
+    const take = () => {
+      const found = app.study.scenarios.find((it) => it.name === name);
+      if (found) app.take(change(app.study, found));
+    };
+    return button(words, take, { "aria-label": what, disabled, live: true });
+  };
+  const without = (study: Study, scenario: Scenario) =>
+    ({ ...study, scenarios: study.scenarios.filter((it) => it !== scenario) });
+  return h("span", { class: "buttons" },
+    act("↑", `Move ${isolated(name)} up`, earlier, isFirst),
+    act("Show", `Show ${isolated(name)}`, shownAgain),
+    act("Remove", `Remove ${isolated(name)}`, without),
+  );
+}
+
 function rows(app: App, scenario: Scenario): Child {
   const { shown, view, study } = app;
   const counted = shown && app.results.scenario(study.base, scenario, view.majorities);
-  const buttons = h("td", { class: "text", rowspan: view.majorities.length },
-    h("span", { class: "buttons" },
-      button("↑", () => app.take(earlier(study, scenario)), {
-        "aria-label": `Move ${isolated(scenario.name)} up`, disabled: study.scenarios[0] === scenario,
-      }),
-      button("Show", () => app.take(shownAgain(study, scenario)), { "aria-label": `Show ${isolated(scenario.name)}` }),
-      button(
-        "Remove",
-        () => app.take({ ...study, scenarios: study.scenarios.filter((it) => it !== scenario) }),
-        { "aria-label": `Remove ${isolated(scenario.name)}` },
-      ),
-    ),
-  );
+  const acts = buttons(app, scenario, study.scenarios[0] === scenario);
   const list = counted ? chairRows(counted, view) : [];
   const note = counted?.refused ? ` (${counted.refused} refused)` : "";
   return view.majorities.map((majority, at) => {
-    const cells = ([1, -1] as const).map((it) => (counted ? extremeCell(list, view, majority, it) : COUNTING));
+    const cells = (["gain", "loss"] as const).map((it) => (counted ? extremeCell(list, view, majority, it) : COUNTING));
     const empty = counted ? emptySentence(counted, majority) : null;
     return h("tr", { "data-scenario": scenario.name, "data-majority": majority },
       at === 0 ? h(
@@ -59,7 +67,7 @@ function rows(app: App, scenario: Scenario): Child {
       ) : null,
       h("td", { class: "text" }, MAJORITY[majority].label),
       empty ? h("td", { class: "text", colspan: 2 }, empty) : cells.map(cellOf),
-      at === 0 ? buttons : null,
+      at === 0 ? h("td", { class: "text", rowspan: view.majorities.length }, acts) : null,
     );
   });
 }
@@ -71,16 +79,19 @@ function cellOf({ words, source }: Said): HTMLElement {
 }
 
 function form(app: App): HTMLElement {
-  const name = h("input", { id: "scenario-name", autocomplete: "off", required: true });
-  const said = h("p", { class: "note", role: "status" });
+  const said = h("p", { class: "wrong", role: "status" });
+  const oninput = () => void (said.textContent = "");
+  const name = h("input", { id: "scenario-name", autocomplete: "off", required: true, live: true, oninput });
   const submit = (event: Event) => {
     event.preventDefault();
     const words = name.value.trim().replace(/\s+/g, " ");
     const isTaken = TAKEN.includes(words) || app.study.scenarios.some((it) => it.name === words);
     if (isTaken) said.textContent = `The name ${isolated(words)} is taken.`;
-    else if (words) app.take(kept(app.study, words));
+    if (isTaken || !words) return;
+    name.value = "";
+    app.take(kept(app.study, words));
   };
-  return h("form", { class: "field", onsubmit: submit },
+  return h("form", { class: "field", live: true, onsubmit: submit },
     h("label", { for: "scenario-name" }, "Keep these changes as"),
     name,
     h("button", { id: "scenario-keep", disabled: app.study.changes.length === 0 }, "Keep"),
@@ -90,13 +101,16 @@ function form(app: App): HTMLElement {
 
 export function paintScenarios(app: App): void {
   const { scenarios } = app.study;
-  const measure = measureWords(app.view.measure);
-  const heads = ["Scenario", "Majority", `Gains most ${measure}`, `Loses most ${measure}`, ""];
+  const measure = MEASURE_NAMES[app.view.measure];
+  const heads = ["Scenario", "Majority", `Gains most, ${measure}`, `Loses most, ${measure}`, ""];
   const table = h("div", { class: "scroll", tabindex: 0, role: "region", "aria-label": "Scenarios side by side" },
     h("table", { id: "scenarios" },
       h("thead", {}, h("tr", {}, heads.map((it) => (it ? h("th", { scope: "col", class: "text" }, it) : h("td", {}))))),
-      scenarios.map((it) => h("tbody", {}, rows(app, it))),
+      scenarios.map((it) => h("tbody", { "data-key": it.name }, rows(app, it))),
     ),
   );
-  paint(byId("scenarios-place"), h("h2", {}, "Scenarios"), form(app), scenarios.length ? table : null);
+  const isEmpty = !scenarios.length && !app.study.changes.length;
+  const note = h("p", { class: "note" }, "Give a list of changes a name, to compare several.");
+  const place = byId("scenarios-place");
+  patch(place, h("h2", {}, "Scenarios"), isEmpty ? note : form(app), scenarios.length ? table : null);
 }

@@ -1,10 +1,15 @@
 /** The sentences above the tabs, each with a button that copies it with its source. */
 import type { App, Shown } from "../app";
 import { copy } from "../clipboard";
-import { sentences, type ChairRow, type Said } from "../compare";
-import { button, byId, h, paint, type Child } from "../dom";
+import { chairRows, sentences, type Said } from "../compare";
+import { button, byId, h, icon, type Child } from "../dom";
+import { patch } from "../patch";
 import { provenanceOf, studySource } from "../provenance";
 import { MAJORITY } from "../words";
+import { markOf } from "./rows";
+
+const COPY = "M5.5 5.5h8v8h-8zM10.5 5.5v-3h-8v8h3";
+const DONE = "M3 8.5 6.5 12 13 4.5";
 
 /** How long a button says that it has copied, in milliseconds. */
 const SAID = 2500;
@@ -18,52 +23,63 @@ export async function withSource(app: App, shown: Shown, said: readonly Said[]):
   return parts.join("\n");
 }
 
-/** A button that copies sentences with their sources, and says so. */
-function copier(
-  app: App,
-  said: readonly Said[],
-  id: string,
-  words: string,
-  name: string,
-  say: (words: string) => void,
-): HTMLElement {
-  const { shown } = app;
-  const done = () => {
-    made.textContent = "Copied";
-    setTimeout(() => (made.textContent = words), SAID);
-    say(`${name.replace(/^Copy the/, "The")} ${said.length > 1 ? "are" : "is"} on the clipboard.`);
+/** A button that copies sentences. */
+interface Copier {
+  readonly id: string;
+  readonly name: string;
+  /** Its words beside the icon. */
+  readonly words: string;
+  /** The sentences as they are when it is pressed. */
+  said(shown: Shown): readonly Said[];
+  say(words: string): void;
+}
+
+/** Makes such a button, which says what it has copied. */
+function copier(app: App, { id, name, words, said, say }: Copier): HTMLElement {
+  const act = async () => {
+    const { shown } = app;
+    if (!shown) return;
+    const all = said(shown);
+    await copy(withSource(app, shown, all));
+    made.classList.add("done");
+    setTimeout(() => made.classList.remove("done"), SAID);
+    const what = name.replace(/^Copy (.)/, (_, letter: string) => letter.toUpperCase());
+    say(`${what} ${all.length > 1 ? "are" : "is"} on the clipboard.`);
   };
   const failed = (why: unknown) => say(why instanceof Error ? why.message : String(why));
-  const act = () => void (shown && copy(withSource(app, shown, said)).then(done, failed));
-  const made = button(words, act, { id, "aria-label": name });
+  const attributes = { id, "aria-label": name, title: name, class: "quiet copier" };
+  const made = button(words, () => void act().catch(failed), attributes);
+  made.prepend(icon(COPY), icon(DONE));
   return made;
 }
 
-/** The sentences with a button each, and one for all. Their ids begin with a word. */
-export function sentenceList(
-  app: App,
-  rows: readonly ChairRow[],
-  id: string,
-  say: (words: string) => void,
-): Child {
-  const { shown, view } = app;
-  if (!shown) return null;
-  const all = sentences(rows, shown.counted, view);
-  // A screen reader that reads sentences as they change doesn't read the buttons.
-  const quiet = (made: HTMLElement) => h("span", { "aria-live": "off" }, made);
-  const items = all.map((it, at) => {
-    const majority = view.majorities[at] ?? "half";
-    const name = `Copy the sentence ${MAJORITY[majority].at.replace(/^./, (letter) => letter.toLowerCase())}`;
-    const made = copier(app, [it], `${id}-${majority}`, "Copy", name, say);
-    return h("div", { class: "said" }, h("p", { title: it.source }, it.words), quiet(made));
-  });
-  const last = all.length > 1
-    ? quiet(copier(app, all, `${id}-all`, "Copy all", "Copy all sentences", say))
-    : null;
-  return [items, last];
+/** The sentences as they are now. */
+function saidOf(app: App, { counted }: Shown): Said[] {
+  return sentences(chairRows(counted, app.view), counted, app.view);
 }
 
-/** Paints the sentences above the tabs. */
-export function paintSentences(app: App, rows: readonly ChairRow[]): void {
-  paint(byId("sentences"), sentenceList(app, rows, "copy", (words) => (byId("live").textContent = words)));
+/** The sentences with a button each, and one for all. Their ids begin with a word. */
+export function sentenceList(app: App, id: string, say: (words: string) => void): Child {
+  const { shown, view } = app;
+  if (!shown) return null;
+  const all = saidOf(app, shown);
+  // A screen reader that reads sentences as they change doesn't read the buttons.
+  const quiet = (...made: HTMLElement[]) => h("span", { "aria-live": "off" }, made);
+  return all.map((it, at) => {
+    const majority = view.majorities[at] ?? "half";
+    const name = `Copy the sentence ${MAJORITY[majority].at.replace(/^./, (letter) => letter.toLowerCase())}`;
+    const said = (now: Shown) => saidOf(app, now).slice(at, at + 1);
+    const one = copier(app, { id: `${id}-${majority}`, name, words: "", said, say });
+    const everyName = "Copy all sentences";
+    const every = { id: `${id}-all`, name: everyName, words: "all", said: (now: Shown) => saidOf(app, now), say };
+    const isLast = all.length > 1 && at === all.length - 1;
+    return h("div", { class: "said" },
+      markOf(majority), h("p", { title: it.source }, it.words), quiet(one, ...(isLast ? [copier(app, every)] : [])));
+  });
+}
+
+/** Paints the sentences above the list: they stay as they are while they say the same. */
+export function paintSentences(app: App): void {
+  const { shown } = app;
+  if (shown) patch(byId("sentences"), sentenceList(app, "copy", (words) => (byId("live").textContent = words)));
 }

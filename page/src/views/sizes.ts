@@ -3,7 +3,7 @@ import { h, type Child } from "../dom";
 import { counted, fractionText, grouped, percent } from "../fractions";
 import { checkWords, shareOfSize, sizesModel, type SizesModel } from "../sizes";
 import { MAJORITY, type Majority } from "../words";
-import { chartPlace, readout, tableBehind } from "./chartParts";
+import { chartPlace, pointAt, tableBehind } from "./chartParts";
 import type { Looked } from "./coalitionParts";
 
 const NOTE =
@@ -95,10 +95,9 @@ function tableOf(looked: Looked, model: SizesModel): HTMLElement {
 export function sizesPart(looked: Looked): SizesPart {
   const model = modelOf(looked);
   const chart = chartPlace("Chart of the numbers of chairs; arrow keys go through them");
-  const box = readout(chart, {
+  pointAt(chart, {
     attribute: "data-size",
     keys: model.all.map((_, size) => String(size)),
-    first: "Point at a number of chairs, or use the arrow keys: its exact numbers appear here.",
     words: (size) => sizeWords(looked, model, size),
   });
   const said = checks(looked).map((it) => h("li", { class: it.holds ? "" : "alarm" }, it.words));
@@ -106,7 +105,6 @@ export function sizesPart(looked: Looked): SizesPart {
     h("h3", {}, "Winning coalitions by number of chairs"),
     h("p", { class: "note" }, NOTE),
     h("ul", { id: "size-checks" }, said),
-    box,
     chart,
     tableBehind(looked.app, () => tableOf(looked, model)),
   ];

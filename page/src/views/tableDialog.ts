@@ -28,6 +28,7 @@ const EMPTY = sheetOfCells([]);
 
 /** A table in the preview, and the choices so far. */
 class Preview {
+  areNoticesOpen = false;
   /** The sheet's place in the source; null until one of several is chosen. */
   place: number | null;
   sheet: Sheet = EMPTY;
@@ -274,7 +275,9 @@ function buttons(preview: Preview, read: ReadTable, close: () => void): HTMLElem
   return h(
     "div",
     { class: "buttons" },
-    button("Take this table", () => orRefuse(take(preview, read, close)), { id: "table-take", disabled }),
+    button("Take this table", () => orRefuse(take(preview, read, close)), {
+      id: "table-take", class: "primary", disabled,
+    }),
     button("Save it cleaned, as CSV", () => saveStrict(preview, read), { id: "table-save", disabled }),
   );
 }
@@ -289,16 +292,23 @@ function content(preview: Preview, close: () => void, again: () => void): Child 
   const which = sheetQuestion(preview, again);
   if (preview.place === null) return [head, which];
   const read = preview.read();
+  const many = read.notices.length;
+  const noticed = h("details", { id: "notices", open: preview.areNoticesOpen },
+    h("summary", {}, `${counted(many, "thing")} ${many === 1 ? "was" : "were"} tidied or left out`),
+    h("ul", { id: "table-notices", class: "note" }, read.notices.map((it) => h("li", {}, it))));
+  noticed.addEventListener("toggle", () => (preview.areNoticesOpen = noticed.open));
   return [
     head,
     which,
-    columnChoices(preview, again),
-    h("ul", { id: "table-notices", class: "note" }, read.notices.map((it) => h("li", {}, it))),
     questions(preview, read, again),
     faultList(preview, read, again),
-    h("p", { id: "table-words", role: "status" }, wholeWords(read)),
-    buttons(preview, read, close),
     previewTable(preview, read),
+    columnChoices(preview, again),
+    many ? noticed : null,
+    h("div", { class: "dialog-foot" },
+      h("p", { id: "table-words", role: "status" }, wholeWords(read)),
+      buttons(preview, read, close),
+    ),
   ];
 }
 
@@ -336,7 +346,7 @@ export function openPaste(read: (text: string, name: string) => void): void {
           "its name, its votes, its chair by number or by name. Tables as the Fund prints them are read, too.",
       ),
       area,
-      h("div", { class: "buttons" }, button("Read the table", act, { id: "paste-take" })),
+      h("div", { class: "buttons" }, button("Read the table", act, { id: "paste-take", class: "primary" })),
     ];
   });
 }

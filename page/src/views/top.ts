@@ -1,13 +1,15 @@
 /** The top bar: the study's name, its summary, and whether all checks passed. */
 import { wholeNumber } from "../amounts";
 import type { App, Shown } from "../app";
+import type { Counted } from "../count";
 import { byId, h, paint } from "../dom";
 import { setDisabled } from "../focus";
 import { counted, grouped } from "../fractions";
 import { SHORT_HASH, VERSION } from "../made";
 import { memberWords } from "../commandWords";
 import { isolated } from "../names";
-import type { Place, Standing } from "../standing";
+import { showValue } from "../patch";
+import type { Place } from "../standing";
 import type { Study } from "../study";
 import { MOST_MEMBERS, MOST_VOTES, reasonOf } from "../words";
 import { Refusal } from "../problem";
@@ -23,15 +25,29 @@ function namesOf(places: readonly Place[]): string {
   return names.join(", ") + (places.length > MOST_NAMES ? ` and ${places.length - MOST_NAMES} more` : "");
 }
 
-/** Members, votes, chairs, members in none and suspended ones. The total is the reading's. */
-function summaryOf(standing: Standing, total: number): string {
+/** A number of things, and from which to which it has changed. */
+function fromTo(before: number, after: number, thing: string): string {
+  return before === after ? counted(after, thing) : `${grouped(before)} → ${counted(after, thing)}`;
+}
+
+/** What to do next, for who closed the card for a first visit. */
+const NEXT = "Paste or open the Fund's table of Directors";
+
+/** Members, chairs, votes, members in none and suspended ones, in one line. The totals are the readings'. */
+function summaryOf({ opening, standing, before, after }: Counted, hint: string): string {
   const members = standing.members();
   const none = standing.in(null);
   const suspended = members.filter((it) => it.suspended);
-  const parts = [counted(members.length, "member"), counted(standing.open().length, "chair"), counted(total, "vote")];
-  parts.push(none.length ? `${none.length} in none: ${namesOf(none)}` : "none without a chair");
-  if (suspended.length) parts.push(`suspended: ${namesOf(suspended)}`);
-  return parts.join(", ");
+  const [was] = before.values();
+  const [now] = after.values();
+  return [
+    fromTo(opening.members().length, members.length, "member"),
+    fromTo(opening.open().length, standing.open().length, "chair"),
+    fromTo(was?.total ?? 0, now?.total ?? 0, "vote"),
+    none.length ? `in no chair: ${namesOf(none)}` : "every member is in a chair",
+    ...(suspended.length ? [`suspended: ${namesOf(suspended)}`] : []),
+    ...(hint ? [hint] : []),
+  ].join(" · ");
 }
 
 function publishedWords(study: Study, total: number): string {
@@ -60,18 +76,6 @@ function paintHistory({ history }: App): void {
   setDisabled(redo, !history.canRedo, undo);
 }
 
-/** The total that the field for it shows. */
-let paintedTotal: number | null | undefined;
-
-/** Paints the published total. A text that was refused stays until it is changed, or the study has another total. */
-function paintPublished({ published }: Study): void {
-  const field = byId<HTMLInputElement>("published");
-  if (published !== paintedTotal) mark(field, byId("published-wrong"), "");
-  paintedTotal = published;
-  const isTyped = field === document.activeElement || field.hasAttribute("aria-invalid");
-  if (!isTyped) field.value = published === null ? "" : grouped(published);
-}
-
 /** Reads the published total when it is typed; an empty field has none. */
 export function listenPublished(app: App): void {
   const [field, wrong] = [byId<HTMLInputElement>("published"), byId("published-wrong")];
@@ -91,23 +95,18 @@ export function listenPublished(app: App): void {
 export function paintTop(app: App): void {
   const { shown, study, fault } = app;
   paint(byId("study-name"), h("bdi", {}, study.name));
-  document.title = `${isolated(study.name)} · voting power`;
+  const title = `${app.isUnsaved ? "• " : ""}${isolated(study.name)} · voting power`;
+  if (document.title !== title) document.title = title;
   paintHistory(app);
-  const alert = fault ? `${faultWords(fault)} ${previousWords(shown)}` : "";
-  byId("fault").textContent = alert;
-  paintPublished(study);
+  byId("fault").textContent = fault ? `${faultWords(fault)} ${previousWords(shown)}` : app.trouble;
+  showValue(byId<HTMLInputElement>("published"), study.published === null ? "" : grouped(study.published));
+  byId("welcome").hidden = !app.isExample || app.open.isWelcomed;
+  byId("paste").classList.toggle("primary", app.isExample && !app.open.isWelcomed);
   if (!shown) return;
   const [before] = shown.counted.before.values();
-  const [after] = shown.counted.after.values();
   const source = "votes: counted, TOTAL; members and chairs: those of the register";
-  const base = h(
-    "span",
-    { title: source },
-    `base: ${summaryOf(shown.counted.opening, before?.total ?? 0)}`,
-  );
-  const words = `changed: ${summaryOf(shown.counted.standing, after?.total ?? 0)}`;
-  const changed = shown.counted.isChanged ? h("span", { title: source }, words) : null;
-  paint(byId("summary"), base, changed);
+  const hint = app.isExample && app.open.isWelcomed ? NEXT : "";
+  paint(byId("summary"), h("span", { title: source }, summaryOf(shown.counted, hint)));
   byId("published-words").textContent = publishedWords(shown.study, before?.total ?? 0);
   const checked = app.isOwnModule ? "module checked" : "MODULE CHANGED";
   byId("seal").textContent = `counted by board ${VERSION} (${SHORT_HASH}), ${checked}`;

@@ -6,19 +6,17 @@ from fractions import Fraction
 from itertools import groupby
 from typing import TYPE_CHECKING
 
-from .names import BEGINNINGS, Majority
+from .names import BEGINNINGS, FINDINGS, MEASURES, Majority
 from .results import IndexName
 
 if TYPE_CHECKING:
     from .studies import Result, Swept, Threshold
 
-NAMES: dict[IndexName, str] = {
-    "share": "share of power",
-    "banzhaf": "Banzhaf measure",
-    "prevent": "power to prevent action",
-    "initiate": "power to initiate action",
-}
+#: The measures that a study compares, as they are named in a sentence.
+NAMES = {name: words for name, words in MEASURES.items() if name != "swings"}
 PLACES, PERCENT_PLACES = 6, 3
+#: The chairs that a sentence names at most; the others are counted.
+MOST_NAMED = 3
 UNITS = [10**places for places in range(11)]
 #: What begins to hold at a threshold, and what ends.
 WORDS = {
@@ -43,75 +41,90 @@ def decimal(numerator: int, denominator: int, places: int) -> str:
 def value_words(value: Fraction, index: IndexName) -> str:
     """A value in a sentence: shares in per cent."""
     if index == "share":
-        return f"{decimal(100 * value.numerator, value.denominator, PERCENT_PLACES)} per cent"
+        return f"{decimal(100 * value.numerator, value.denominator, PERCENT_PLACES)} %"
     return decimal(value.numerator, value.denominator, PLACES)
 
 
 def gain_words(gain: Fraction, index: IndexName) -> str:
     """A gain in a sentence; one that rounds to 0 is given as less than the last place."""
-    by, places, unit = (100, PERCENT_PLACES, " percentage points") if index == "share" else (1, PLACES, "")
-    text = decimal(by * gain.numerator, gain.denominator, places)
-    if gain and not text.strip("-0."):
-        return f"less than {decimal(1, 10**places, places)}{unit}"
-    return f"{'+' if gain > 0 else ''}{text}{unit}"
+    by, places = (100, PERCENT_PLACES) if index == "share" else (1, PLACES)
+    change = decimal(by * gain.numerator, gain.denominator, places)
+    is_tiny = bool(gain) and not change.strip("-0.")
+    change = decimal(1, 10**places, places) if is_tiny else f"{'+' if gain > 0 else ''}{change}"
+    words = FINDINGS["points"].format(change=change) if index == "share" else change
+    return FINDINGS["tiny"].format(change=words) if is_tiny else words
 
 
 def votes_words(votes: int) -> str:
     return f"{votes:,} vote{'s' * (votes != 1)}"
 
 
-def chairs_words(result: Result, chairs: Sequence[int]) -> str:
-    """Chairs in a sentence, by number and name."""
-    names = [result.named(it) for it in chairs]
-    listed = " and ".join([", ".join(names[:-1]), names[-1]] if len(names) > 1 else names)
-    return f"chair{'s' * (len(names) > 1)} {listed}"
+def listed(names: Sequence[str], most: int = MOST_NAMED) -> str:
+    """Names in a sentence: those after the first few are only counted."""
+    first, others = [*names[:most]], len(names) - most
+    last = f"{others:,} more" if others > 0 else first.pop() if len(first) > 1 else ""
+    return ", ".join(first) + (f" and {last}" if last else "")
 
 
-def most_words(result: Result, index: IndexName, over: Mapping[int, int], under: int, verb: str) -> str:
+def finding(name: str, result: Result, chairs: Sequence[int], **words: str) -> str:
+    """A finding on a chair or on several, by number and name."""
+    which = f"{name}_{'one' if len(chairs) == 1 else 'several'}"
+    return FINDINGS[which].format(chairs=listed([result.named(it) for it in chairs]), **words)
+
+
+def most_words(result: Result, index: IndexName, over: Mapping[int, int], under: int, name: str) -> str:
     """The chair or chairs that gain most, or lose most, by the numerators of the gains and their denominator."""
-    most = max(over.values(), default=0) if verb == "gain" else min(over.values(), default=0)
-    if most == 0 or (most < 0) == (verb == "gain"):
-        return f"no chair {verb}s"
+    most = max(over.values(), default=0) if name == "gain" else min(over.values(), default=0)
+    if most == 0 or (most < 0) == (name == "gain"):
+        return FINDINGS[f"{name}_none"]
     chairs = [chair for chair, gain in over.items() if gain == most]
-    ending, each = ("s", "") if len(chairs) == 1 else ("", " each")
-    return f"{chairs_words(result, chairs)} {verb}{ending} most, {gain_words(Fraction(most, under), index)}{each}"
+    return finding(name, result, chairs, change=gain_words(Fraction(most, under), index))
 
 
 def opened_words(result: Result, base: Result, majority: Majority, index: IndexName) -> str:
     """The chairs that are new, and those that are closed, with their values."""
     now, then = result.chairs[majority], base.chairs[majority]
     kept = {it for it in now if result.before(majority, it)}
-    new = [(result, it, "is new: ") for number, it in now.items() if number not in kept]
-    closed = [(base, it, "is closed; in the base it had ") for number, it in then.items() if number not in kept]
+    new = [(result, it, "new") for number, it in now.items() if number not in kept]
+    closed = [(base, it, "closed") for number, it in then.items() if number not in kept]
     said = ""
-    for owner, chair, words in [*new, *closed]:
+    for owner, chair, name in [*new, *closed]:
         value = getattr(chair, index)
         shown = "no value" if value is None else value_words(value, index)
-        said += f" Chair {owner.named(chair.chair)} {words}{shown}."
+        said += FINDINGS[name].format(chair=owner.named(chair.chair), value=shown)
     return said
 
 
+def most_sentence(result: Result, majority: Majority, index: IndexName) -> str:
+    """The chair or the chairs with the greatest value, and its votes if it is one."""
+    found = result.indices[majority]
+    values = {it.chair: getattr(it, index) or Fraction(0) for it in found.chairs}
+    most = max(values.values(), default=Fraction(0))
+    chairs = [chair for chair, value in values.items() if value == most]
+    share = value_words(Fraction(sum(it.weight for it in found.chairs if it.chair in chairs), found.cast), "share")
+    words = {"at": BEGINNINGS[majority], "measure": NAMES[index], "value": value_words(most, index)}
+    return finding("most", result, chairs, votes=FINDINGS["votes"].format(share=share), **words)
+
+
 def gain_sentence(result: Result, majority: Majority, index: IndexName) -> str:
-    """The greatest gain and loss at a majority."""
-    if not result.indices[majority].omega:
-        return f"{BEGINNINGS[majority]} no coalition wins."
+    """The greatest gain and loss at a majority; of a base the greatest value."""
+    at, found = BEGINNINGS[majority], result.indices[majority]
+    if not found.omega:
+        return FINDINGS["none_wins"].format(at=at, cast=f"{found.cast:,}", total=f"{found.total:,}")
     if result.base is None:
-        chairs = [(getattr(it, index), it.chair) for it in result.indices[majority].chairs if getattr(it, index)]
-        most = max((value for value, _ in chairs), default=Fraction(0))
-        first = [chair for value, chair in chairs if value == most]
-        words = f"{'has' if len(first) == 1 else 'have'} most, {value_words(most, index)}"
-        return f"{BEGINNINGS[majority]}, in {NAMES[index]}: {chairs_words(result, first)} {words}."
+        return most_sentence(result, majority, index)
     if not result.base.indices[majority].omega:
-        return f"{BEGINNINGS[majority]} no coalition wins in the base, so nothing can be compared."
+        return FINDINGS["none_before"].format(at=at)
     over, under = result.gains_over(index, majority)
-    both = "; ".join(most_words(result, index, over, under, verb) for verb in ("gain", "lose"))
-    said = both if any(over.values()) else "no chair gains, and no chair loses"
-    return f"{BEGINNINGS[majority]}, in {NAMES[index]}: {said}.{opened_words(result, result.base, majority, index)}"
+    gain, loss = (most_words(result, index, over, under, name) for name in ("gain", "loss"))
+    opened = opened_words(result, result.base, majority, index)
+    return FINDINGS["gains"].format(at=at, measure=NAMES[index], gain=gain, loss=loss, opened=opened)
 
 
 def kind_words(result: Result, chairs: Sequence[int], words: str) -> str:
     """A statement about chairs."""
-    return f"{chairs_words(result, chairs)} {words if len(chairs) == 1 else words.replace('has ', 'have ')}"
+    named = listed([result.named(it) for it in chairs], len(chairs))
+    return f"chair {named} {words}" if len(chairs) == 1 else f"chairs {named} {words.replace('has ', 'have ')}"
 
 
 def threshold_sentence(swept: Swept, found: Sequence[Threshold]) -> str:

@@ -155,3 +155,32 @@ ALLOWED: dict[str, str] = {
     "length": "a whole number from 0 to the number of accepted commands",
     "columns": "the columns are code, name, votes, chair, chair_name and suspended",
 }
+
+#: How the measures are named in a sentence.
+MEASURES: dict[str, str] = {
+    "share": "share of power",
+    "banzhaf": "Banzhaf measure",
+    "prevent": "power to prevent action",
+    "initiate": "power to initiate action",
+    "swings": "number of swings",
+}
+
+#: The sentences on who has most and who gains most.
+FINDINGS: dict[str, str] = {
+    "none_wins": "{at} no coalition wins: the open chairs cast {cast} of {total} votes.",
+    "none_before": "{at} no coalition wins in the base, so nothing can be compared.",
+    "most_one": "{at}, chair {chairs} has the largest {measure}: {value}{votes}.",
+    "most_several": "{at}, chairs {chairs} have the largest {measure}, each the same: {value}.",
+    "votes": " with {share} of the votes",
+    "gains": "{at}, in {measure}: {gain}; {loss}.{opened}",
+    "gain_one": "chair {chairs} gains most, {change}",
+    "gain_several": "chairs {chairs} gain most, {change} each",
+    "gain_none": "no chair gains",
+    "loss_one": "chair {chairs} loses most, {change}",
+    "loss_several": "chairs {chairs} lose most, {change} each",
+    "loss_none": "no chair loses",
+    "new": " Chair {chair} is new: {value}.",
+    "closed": " Chair {chair} is closed; in the base it had {value}.",
+    "tiny": "less than {change}",
+    "points": "{change} percentage points",
+}
