@@ -13,7 +13,7 @@ from selenium.webdriver.remote.webelement import WebElement
 from selenium.webdriver.support.select import Select
 from selenium.webdriver.support.wait import WebDriverWait
 
-SECONDS = 20.0
+SECONDS = 60.0
 # The browsers of a module of tests that is run in all of them.
 EVERY = ["chromium", "firefox"]
 WIDE, NARROW = 1280, 390

@@ -1,6 +1,7 @@
 """Exported files, and the studies that are read back from them."""
 from __future__ import annotations
 
+import base64
 import hashlib
 import json
 import re
@@ -18,6 +19,7 @@ from selenium.webdriver.common.keys import Keys
 from test_random import table_of
 
 COMMANDS = ["votes,XAD,318104", "move,XAA,2", "suspend,XAC"]
+MODULE = re.compile('<script type="text/plain" id="module">(.*?)</script>')
 PROVENANCE = ["counted by board ", "module board.wasm sha256 ", "table ", "script sha256 ", "lines sha256 ", "date "]
 
 
@@ -40,7 +42,7 @@ def check_provenance(text: str, page: Page, oracle: Oracle) -> None:
     starts = [next((it for it in lines if start in it), "") for start in PROVENANCE]
     assert all(starts) and re.search(r"counted by board \d+\.\d+\.\d+, sources [0-9a-f]{64}", starts[0]), lines[:9]
     script = oracle.script(COMMANDS, shown_majorities(page)).encode()
-    assert starts[1].endswith(sha256((TOP / "targets" / "wasm" / "out" / "board.wasm").read_bytes()))
+    assert starts[1].endswith(sha256(base64.b64decode(MODULE.findall(page.file.read_text())[0])))
     assert starts[2].endswith(sha256(EXAMPLE.read_bytes()))
     assert starts[3].endswith(sha256(script)) and starts[4].endswith(sha256(oracle.lines(script)))
 

@@ -10,9 +10,9 @@ from actions import Model, drawn_act
 from chromium import NARROW, Page
 from figures import shown_majorities
 from oracle import UNSHOWN, Oracle
+from tests.shared.sizes import drawn, seed
 
-SEED = 20_260_101
-PARTS, LISTS, MOST_ACTS = 10, 20, 9
+PARTS, LISTS, MOST_ACTS = drawn(2, 10), 20, 9
 # Opens the script and the lines, reads both, and closes them.
 TEXTS = """
   const [done] = [...arguments].slice(-1), source = document.getElementById("source");
@@ -51,7 +51,7 @@ def table_of(text: str) -> list[dict[str, str]]:
 @pytest.mark.parametrize("part", range(PARTS))
 def test_random_lists(page: Page, oracle: Oracle, part: int) -> None:
     # Catches: any sequence of acts after which the page shows other numbers than its script gives.
-    some = random.Random(SEED + part)
+    some = random.Random(seed() + part)
     for majority in some.sample(UNSHOWN, part % 3):
         page.click(f"#at-{majority}")
     majorities = shown_majorities(page)
