@@ -1,20 +1,20 @@
 /** Begins the page: the study is the one in the page's data, else the example. */
-import "./pageText";
+import "./study/pageText";
 import exampleText from "../../examples/members.csv";
-import { App } from "./app";
-import { boardsOver } from "./boards";
-import { Counter } from "./count";
-import { byId } from "./dom";
-import { hashOf, MODULE_HASH, moduleBytes } from "./made";
+import { App } from "./views/app";
+import { boardsOver } from "./engine/boards";
+import { Counter } from "./engine/count";
+import { byId } from "./views/dom";
+import { hashOf, MODULE_HASH, moduleBytes } from "./study/made";
 import { baseOf } from "./tables/base";
 import { guessedLayout } from "./tables/columns";
 import { readTable } from "./tables/read";
 import { sheetOf } from "./tables/text";
 import { NO_ANSWERS } from "./tables/types";
-import { FIRST_VIEW, studyOf } from "./study";
-import { readData, type StudyData } from "./studyData";
-import { listen } from "./listen";
-import { paintPage } from "./paint";
+import { FIRST_VIEW, studyOf } from "./study/study";
+import { readData, type StudyData } from "./study/studyData";
+import { listen } from "./views/listen";
+import { paintPage } from "./views/paint";
 import { paintWaiting } from "./views/waiting";
 
 async function example(counter: Counter): Promise<StudyData> {

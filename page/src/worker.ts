@@ -1,8 +1,8 @@
 /** The worker: it carries out the page's orders, of which a long one gives way to others from time to time. */
-import { Engine } from "./engine";
-import type { Kind, Orders } from "./orders";
-import { pausing } from "./pausing";
-import { problemOf, type Problem } from "./problem";
+import { Engine } from "./engine/engine";
+import type { Kind, Orders } from "./engine/orders";
+import { pausing } from "./engine/pausing";
+import { problemOf, type Problem } from "./engine/problem";
 
 /** An order with a number that all answers to it repeat; or the number of an order that is cancelled. */
 export type Message =

@@ -1,7 +1,7 @@
 /** Tests of the numbers that people type, by hand-worked values. */
 import assert from "node:assert/strict";
 import { test } from "node:test";
-import { percentage, wholeNumber, type PercentKind } from "../src/amounts";
+import { percentage, wholeNumber, type PercentKind } from "../src/study/amounts";
 
 const LIMIT = 2 ** 40;
 

@@ -6,9 +6,9 @@ import { indices } from "../../bindings/javascript/src/indices";
 import { loadSync } from "../../bindings/javascript/src/load";
 import {
   checkOf, coalitionsBySize, smallestWith, subsetsWithout, verdictOf, vetoChairs, winningBySize, type Rule,
-} from "../src/coalitions";
-import { Subsets } from "../src/subsets";
-import { MAJORITIES, type Majority } from "../src/words";
+} from "../src/engine/coalitions";
+import { Subsets } from "../src/engine/subsets";
+import { MAJORITIES, type Majority } from "../src/study/words";
 
 loadSync(readFileSync(process.env["MODULE"] ?? ""));
 

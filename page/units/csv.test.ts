@@ -1,7 +1,7 @@
 /** Cells of tables that are exported. */
 import assert from "node:assert/strict";
 import { test } from "node:test";
-import { plainCell } from "../src/csv";
+import { plainCell } from "../src/exports/csv";
 
 test("cells that a spreadsheet would take for a formula", () => {
   // Catches: a name in a table that a spreadsheet carries out, and a number or a name that is changed.

@@ -2,10 +2,10 @@
 import assert from "node:assert/strict";
 import { readFileSync } from "node:fs";
 import { test } from "node:test";
-import { Engine } from "../src/engine";
-import type { Kind, Orders, Progress } from "../src/orders";
-import { Cancelled, pausing } from "../src/pausing";
-import type { Change, Command, Percentage } from "../src/study";
+import { Engine } from "../src/engine/engine";
+import type { Kind, Orders, Progress } from "../src/engine/orders";
+import { Cancelled, pausing } from "../src/engine/pausing";
+import type { Change, Command, Percentage } from "../src/study/study";
 
 const SCRIPT = `member,votes
 AAA,50

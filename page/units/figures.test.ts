@@ -1,10 +1,10 @@
 /** Tests of the parts of exported figures that need no browser: sizes, texts in lines, rows, chunks of a PNG. */
 import assert from "node:assert/strict";
 import { test } from "node:test";
-import { axisText, LIGHT, rowHeight } from "../src/charts";
-import { millimetresOf, pointsOf, resolutionOf, unitsOf, widthOf } from "../src/figureSize";
-import { withChunks } from "../src/png";
-import { fitted, fontName, wrapped, type Typeface } from "../src/typeface";
+import { axisText, LIGHT, rowHeight } from "../src/charts/charts";
+import { millimetresOf, pointsOf, resolutionOf, unitsOf, widthOf } from "../src/exports/figureSize";
+import { withChunks } from "../src/exports/png";
+import { fitted, fontName, wrapped, type Typeface } from "../src/exports/typeface";
 
 /** A typeface whose letters all have half the size. */
 const FACE: Typeface = { family: "mono", width: (text, size) => (text.length * size) / 2 };

@@ -1,7 +1,7 @@
 /** Tests of the filter of members. */
 import assert from "node:assert/strict";
 import { test } from "node:test";
-import { folded, namesChair, namesMember } from "../src/filter";
+import { folded, namesChair, namesMember } from "../src/views/filter";
 
 test("accents and case", () => {
   // Catches: a member that is found only by people who have its letters on their keyboard.

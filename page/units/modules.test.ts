@@ -40,9 +40,9 @@ test("the versions of all modules of Debian's in the page are recorded", () => {
 
 test("the reader of tables, and what counts, need no page", () => {
   // Catches: a module for Node and for the worker that asks for elements of the page.
-  const names = /src\/tables\/|src\/(engine|sweep|best|amount|amounts|csv|operations|coalitions|subsets|sizes)\.ts/;
+  const names = /src\/(tables|engine|study)\/|src\/exports\/csv\.ts/;
   const pure = Object.keys(inputs).filter((it) => names.test(it));
-  const ofPage = /src\/(dom|app|dialogs)\.ts|src\/views\//;
+  const ofPage = /src\/views\//;
   assert.ok(pure.length > 15);
   for (const it of pure) assert.deepEqual(inputs[it]?.imports.filter(({ path }) => ofPage.test(path)), [], it);
 });

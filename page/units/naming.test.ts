@@ -1,8 +1,8 @@
 /** Tests of names that are edited. */
 import assert from "node:assert/strict";
 import { test } from "node:test";
-import { nameOf, withChairName, withMemberName } from "../src/naming";
-import type { Study } from "../src/study";
+import { nameOf, withChairName, withMemberName } from "../src/study/naming";
+import type { Study } from "../src/study/study";
 
 const STUDY: Study = {
   name: "Council",

@@ -1,8 +1,8 @@
 /** Tests of readings as numbers. */
 import assert from "node:assert/strict";
 import { test } from "node:test";
-import { packed, unpacked } from "../src/packed";
-import type { ChairReading, Reading } from "../src/reading";
+import { packed, unpacked } from "../src/engine/packed";
+import type { ChairReading, Reading } from "../src/engine/reading";
 
 test("readings as numbers, and back", () => {
   // Catches: numbers in another order, a fraction that is missing and becomes 0, or one that is rounded.

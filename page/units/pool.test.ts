@@ -2,13 +2,13 @@
 import assert from "node:assert/strict";
 import { readFileSync } from "node:fs";
 import { test } from "node:test";
-import { Engine } from "../src/engine";
-import { Cancelled, pausing } from "../src/pausing";
-import { Pool, type Answer, type Ask, type Desk, type Report, type Task } from "../src/pool";
-import type { Kind } from "../src/orders";
-import { movesOver, sweepOver, thresholdsOver, type Place } from "../src/split";
-import type { SweepAsked } from "../src/study";
-import { MAJORITIES } from "../src/words";
+import { Engine } from "../src/engine/engine";
+import { Cancelled, pausing } from "../src/engine/pausing";
+import { Pool, type Answer, type Ask, type Desk, type Report, type Task } from "../src/engine/pool";
+import type { Kind } from "../src/engine/orders";
+import { movesOver, sweepOver, thresholdsOver, type Place } from "../src/engine/split";
+import type { SweepAsked } from "../src/study/study";
+import { MAJORITIES } from "../src/study/words";
 
 /** An engine as a worker, which notes the orders that it began. */
 class Hand implements Desk {

@@ -2,7 +2,7 @@
 import assert from "node:assert/strict";
 import { createHash } from "node:crypto";
 import { test } from "node:test";
-import { sha256 } from "../src/sha256";
+import { sha256 } from "../src/study/sha256";
 
 const bytes = (text: string) => new TextEncoder().encode(text);
 

@@ -1,7 +1,7 @@
 /** Tests of tables for LaTeX. */
 import assert from "node:assert/strict";
 import { test } from "node:test";
-import { texTable, texText } from "../src/tex";
+import { texTable, texText } from "../src/exports/tex";
 
 test("marks that LaTeX takes for something else", () => {
   // Catches: a mark that isn't escaped, or one that is escaped twice.

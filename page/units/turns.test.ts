@@ -2,11 +2,11 @@
 import assert from "node:assert/strict";
 import { readFileSync } from "node:fs";
 import { test } from "node:test";
-import { Engine } from "../src/engine";
-import type { Question, Statement } from "../src/orders";
-import { plainCount } from "../src/plain";
-import type { Who } from "../src/study";
-import { MAJORITIES, type Majority } from "../src/words";
+import { Engine } from "../src/engine/engine";
+import type { Question, Statement } from "../src/engine/orders";
+import { plainCount } from "../src/engine/plain";
+import type { Who } from "../src/study/study";
+import { MAJORITIES, type Majority } from "../src/study/words";
 
 /** A member: its votes, its chair or 0 for none, and whether it is suspended. */
 interface Seated {

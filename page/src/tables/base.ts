@@ -1,6 +1,6 @@
 /** The base of a study from the members of a table: the register makes its script. */
-import type { Counter } from "../count";
-import type { Base } from "../study";
+import type { Counter } from "../engine/count";
+import type { Base } from "../study/study";
 import type { TableBase } from "./types";
 
 /** The base of a table, whose text has this SHA-256. */

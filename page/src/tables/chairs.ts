@@ -1,5 +1,5 @@
 /** The chair of each member: from its own row, from the first row of its block, or from a heading above it. */
-import { CHAIRS } from "../words";
+import { CHAIRS } from "../study/words";
 import { wholeOf } from "./numbers";
 import type { Questions } from "./questions";
 import { rowsWords, type Line } from "./rows";

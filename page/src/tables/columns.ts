@@ -1,5 +1,5 @@
 /** What the columns of a sheet mean, by their contents as much as by their headings. */
-import { CHAIRS } from "../words";
+import { CHAIRS } from "../study/words";
 import { decimalOf, isNumber, isPercent, provenThousands, wholeOf, withoutMarks, type Thousands } from "./numbers";
 import { isStrict } from "./strict";
 import { MEANINGS, type Layout, type Meaning, type Sheet } from "./types";

@@ -1,5 +1,5 @@
 /** Members from rows whose chairs are known: codes, votes and numbers of chairs, each cell read or refused. */
-import { CHAIRS, MOST_MEMBERS, MOST_VOTES, reasonOf } from "../words";
+import { CHAIRS, MOST_MEMBERS, MOST_VOTES, reasonOf } from "../study/words";
 import { chairNumber, chairNumbers, isName, keyOf } from "./chairs";
 import { votesReason, wholeOf, type Thousands } from "./numbers";
 import type { Line } from "./rows";

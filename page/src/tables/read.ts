@@ -1,5 +1,5 @@
 /** Reads a sheet by its layout and the answers so far: a whole table, or what is wrong and what is open. */
-import { counted, grouped } from "../fractions";
+import { counted, grouped } from "../study/fractions";
 import { columnName, columnNames, hasTwoHeaders } from "./columns";
 import { seated, type AlternateHead, type Seated } from "./chairs";
 import { madeCodes } from "./codes";

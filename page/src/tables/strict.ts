@@ -1,5 +1,5 @@
 /** The strict table, which scripts and packages take: `code,name,votes,chair,chair_name,suspended`. */
-import { CHAIRS } from "../words";
+import { CHAIRS } from "../study/words";
 import type { Sheet, TableBase } from "./types";
 
 export const STRICT_HEADER = ["code", "name", "votes", "chair", "chair_name", "suspended"] as const;

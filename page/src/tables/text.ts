@@ -1,6 +1,6 @@
 /** Texts with tabs, semicolons or commas between cells, as sheets. */
 import { dsvFormat } from "d3-dsv";
-import { counted } from "../fractions";
+import { counted } from "../study/fractions";
 import { splitLines } from "./lines";
 import { Unreadable, type Sheet } from "./types";
 

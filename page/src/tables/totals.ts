@@ -1,5 +1,5 @@
 /** Totals among the rows: by name and by arithmetic. */
-import { grouped } from "../fractions";
+import { grouped } from "../study/fractions";
 import type { Questions } from "./questions";
 import { lineWords, rowsWords, type Line, type Role } from "./rows";
 

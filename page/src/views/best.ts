@@ -1,14 +1,14 @@
 /** The dialog of single moves: the best ones for a chair, or those of all that change any chair most. */
-import type { App, Shown } from "../app";
-import { changeOf, ranked } from "../best";
+import type { App, Shown } from "./app";
+import { changeOf, ranked } from "../engine/best";
 import { MEASURE_NAMES } from "../cited";
-import { openDialog } from "../dialogs";
-import { button, choice, h, paint, type Child } from "../dom";
-import { grouped } from "../fractions";
-import type { Tried } from "../orders";
-import type { Report } from "../pool";
-import { chairChoices, type Standing } from "../standing";
-import { MAJORITY, MEASURE, type Majority } from "../words";
+import { openDialog } from "./dialogs";
+import { button, choice, h, paint, type Child } from "./dom";
+import { grouped } from "../study/fractions";
+import type { Tried } from "../engine/orders";
+import type { Report } from "../engine/pool";
+import { chairChoices, type Standing } from "../engine/standing";
+import { MAJORITY, MEASURE, type Majority } from "../study/words";
 import { movesToAny, movesToChair } from "./bestTables";
 import { LongWork } from "./longWork";
 

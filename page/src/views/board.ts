@@ -1,10 +1,10 @@
 /** The figures of the readings for the board as a whole. */
-import type { App } from "../app";
-import { byId, h } from "../dom";
-import { fractionText, grouped, nearest, over, percent } from "../fractions";
-import { patch } from "../patch";
-import type { Reading, Readings } from "../reading";
-import { MAJORITY } from "../words";
+import type { App } from "./app";
+import { byId, h } from "./dom";
+import { fractionText, grouped, nearest, over, percent } from "../study/fractions";
+import { patch } from "./patch";
+import type { Reading, Readings } from "../engine/reading";
+import { MAJORITY } from "../study/words";
 import { markOf, SHORT } from "./rows";
 
 interface Quantity {

@@ -1,9 +1,9 @@
 /** The dialog for a chair's name. */
-import type { App } from "../app";
-import { openDialog } from "../dialogs";
-import { h } from "../dom";
-import { nameOf, withChairName } from "../naming";
-import { chairKey } from "../standing";
+import type { App } from "./app";
+import { openDialog } from "./dialogs";
+import { h } from "./dom";
+import { nameOf, withChairName } from "../study/naming";
+import { chairKey } from "../engine/standing";
 import { fieldForm, readField } from "./field";
 
 /** Asks for a chair's name. */

@@ -1,11 +1,11 @@
 /** The table of chairs on the page: decimals or fractions, with groups of columns and a row of sums. */
-import type { App } from "../app";
-import { chairCells, shownCell, type Head } from "../chairCells";
-import type { Columns, Line } from "../columns";
-import type { ChairRow } from "../compare";
-import { button, h, type Child } from "../dom";
-import type { View } from "../study";
-import { MEASURE } from "../words";
+import type { App } from "./app";
+import { chairCells, shownCell, type Head } from "../exports/chairCells";
+import type { Columns, Line } from "../engine/columns";
+import type { ChairRow } from "../engine/compare";
+import { button, h, type Child } from "./dom";
+import type { View } from "../study/study";
+import { MEASURE } from "../study/words";
 
 export const KIND_WORDS: Readonly<Record<ChairRow["kind"], string>> = {
   kept: "", opened: " (new)", closed: " (closed)",

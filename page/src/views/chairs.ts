@@ -1,15 +1,15 @@
 /** The list of chairs, each with its marks and numbers; open, it shows its members as chips that can be dragged. */
-import type { App, Shown } from "../app";
-import { button, byId, h, type Child } from "../dom";
-import { keepFocus } from "../focus";
-import { counted, grouped } from "../fractions";
-import type { Line } from "../columns";
-import { memberWords } from "../commandWords";
-import { chairKey, closedChair, type Place } from "../standing";
-import { namesChair, namesMember } from "../filter";
-import type { CardPlace } from "../moves";
-import { patch } from "../patch";
-import { withAdded, type Tab } from "../study";
+import type { App, Shown } from "./app";
+import { button, byId, h, type Child } from "./dom";
+import { keepFocus } from "./focus";
+import { counted, grouped } from "../study/fractions";
+import type { Line } from "../engine/columns";
+import { memberWords } from "../study/commandWords";
+import { chairKey, closedChair, type Place } from "../engine/standing";
+import { namesChair, namesMember } from "./filter";
+import type { CardPlace } from "./moves";
+import { patch } from "./patch";
+import { withAdded, type Tab } from "../study/study";
 import { KIND_WORDS, rowWords } from "./chairTable";
 import { openChairName } from "./chairName";
 import { openMember } from "./member";

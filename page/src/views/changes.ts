@@ -1,13 +1,13 @@
 /** The list of changes in the order carried out, each with old and new; it can be switched off, moved and removed. */
-import { percentage, wholeNumber, type Typed } from "../amounts";
-import type { App } from "../app";
-import { changeWords, refusalWords } from "../commandWords";
-import { button, byId, h, type Child } from "../dom";
-import { keepFocus, setDisabled } from "../focus";
-import { operationDetails } from "../operationWords";
-import { patch } from "../patch";
-import { isOperation, withChanges, type Change, type Percentage, type Scale, type Study } from "../study";
-import { MOST_VOTES } from "../words";
+import { percentage, wholeNumber, type Typed } from "../study/amounts";
+import type { App } from "./app";
+import { changeWords, refusalWords } from "../study/commandWords";
+import { button, byId, h, type Child } from "./dom";
+import { keepFocus, setDisabled } from "./focus";
+import { operationDetails } from "../study/operationWords";
+import { patch } from "./patch";
+import { isOperation, withChanges, type Change, type Percentage, type Scale, type Study } from "../study/study";
+import { MOST_VOTES } from "../study/words";
 import { readField, type Field } from "./field";
 
 function set(app: App, changes: readonly Change[], gesture = ""): void {

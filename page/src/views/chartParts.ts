@@ -1,6 +1,6 @@
 /** Parts of a chart on the page: its place, what is pointed at, and the table behind it. */
-import type { App } from "../app";
-import { h, type Child } from "../dom";
+import type { App } from "./app";
+import { h, type Child } from "./dom";
 import { hideTip, showTip } from "./tip";
 
 /** The place of a chart, which arrow keys go through. */

@@ -1,9 +1,9 @@
 /** How to cite the version: a text and an entry of BibTeX, each with a button that copies it. */
-import type { App } from "../app";
-import { copy } from "../clipboard";
-import { openDialog } from "../dialogs";
-import { button, h, type Child } from "../dom";
-import { citation } from "../provenance";
+import type { App } from "./app";
+import { copy } from "../exports/clipboard";
+import { openDialog } from "./dialogs";
+import { button, h, type Child } from "./dom";
+import { citation } from "../study/provenance";
 
 function part(words: string, id: string, text: string, said: HTMLElement): Child {
   const copied = () => copy(Promise.resolve(text)).then(

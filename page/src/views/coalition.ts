@@ -1,14 +1,14 @@
 /** The tab Coalition: chairs are ticked, and what holds of them as a coalition is shown for each majority. */
-import type { App } from "../app";
-import { verdictOf, votesOf } from "../coalitions";
-import { button, byId, h, paint, type Child } from "../dom";
-import { setDisabled } from "../focus";
-import { counted, grouped } from "../fractions";
-import { screenLook } from "../look";
-import type { Reading } from "../reading";
-import { drawSizes } from "../sizesChart";
-import { setTicked, ticked } from "../ticks";
-import { MAJORITY } from "../words";
+import type { App } from "./app";
+import { verdictOf, votesOf } from "../engine/coalitions";
+import { button, byId, h, paint, type Child } from "./dom";
+import { setDisabled } from "./focus";
+import { counted, grouped } from "../study/fractions";
+import { screenLook } from "../charts/look";
+import type { Reading } from "../engine/reading";
+import { drawSizes } from "../charts/sizesChart";
+import { setTicked, ticked } from "../engine/ticks";
+import { MAJORITY } from "../study/words";
 import { chairList, lookedAt, type Looked } from "./coalitionParts";
 import { failures, sizesPart } from "./sizes";
 import { smallestPart } from "./smallest";

@@ -1,9 +1,9 @@
 /** What the parts of the tab Coalition share: the board that they look at, and its chairs in words. */
-import type { App, Shown } from "../app";
-import { chairRows } from "../compare";
-import { h, type Child } from "../dom";
-import type { Reading } from "../reading";
-import type { Majority } from "../words";
+import type { App, Shown } from "./app";
+import { chairRows } from "../engine/compare";
+import { h, type Child } from "./dom";
+import type { Reading } from "../engine/reading";
+import type { Majority } from "../study/words";
 
 /** The board that the tab looks at: the changed one if there is one, else the base. */
 export interface Looked {

@@ -1,15 +1,15 @@
 /** The dialog of exports: figure, table, sentences, the whole study, citation. Each has version and hash. */
-import type { App, Shown } from "../app";
-import { copy } from "../clipboard";
-import { openDialog } from "../dialogs";
-import { button, byId, h, save, type Child } from "../dom";
-import { fileName, textFile } from "../exportFile";
-import { csvFile, shownText, texText, workbookFile } from "../exportTables";
-import { grouped } from "../fractions";
-import { pageText } from "../pageText";
-import { firstLines, provenanceOf, studySource } from "../provenance";
-import { dataText, readData } from "../studyData";
-import { INPUT_BYTES } from "../words";
+import type { App, Shown } from "./app";
+import { copy } from "../exports/clipboard";
+import { openDialog } from "./dialogs";
+import { button, byId, h, save, type Child } from "./dom";
+import { fileName, textFile } from "../exports/exportFile";
+import { csvFile, shownText, texText, workbookFile } from "../exports/exportTables";
+import { grouped } from "../study/fractions";
+import { pageText } from "../study/pageText";
+import { firstLines, provenanceOf, studySource } from "../study/provenance";
+import { dataText, readData } from "../study/studyData";
+import { INPUT_BYTES } from "../study/words";
 import { openCitation } from "./citation";
 import { figureGroup, type Exporter } from "./figureGroup";
 import { sentenceList } from "./sentences";

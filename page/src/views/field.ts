@@ -1,6 +1,6 @@
 /** Fields of a form: what is typed is read, or a sentence under the field says what would be right. */
-import type { Typed } from "../amounts";
-import { h, type Attributes } from "../dom";
+import type { Typed } from "../study/amounts";
+import { h, type Attributes } from "./dom";
 
 /** A field with its label and the place of its sentence. */
 export interface Field<Value> {

@@ -1,8 +1,8 @@
 /** The choices of a figure for an export: its width, its typeface, its title, and the resolution of a picture. */
-import { choice, h, type Child } from "../dom";
-import type { FigureChoice } from "../exportFigure";
-import { MOST_HEIGHT, resolutionOf, WIDTHS, widthOf, type FigureChosen } from "../figureSize";
-import { FAMILIES, fontName, isInstalled, namedFamily } from "../typeface";
+import { choice, h, type Child } from "./dom";
+import type { FigureChoice } from "../exports/exportFigure";
+import { MOST_HEIGHT, resolutionOf, WIDTHS, widthOf, type FigureChosen } from "../exports/figureSize";
+import { FAMILIES, fontName, isInstalled, namedFamily } from "../exports/typeface";
 import { readField, type Field } from "./field";
 
 export interface FigureForm {

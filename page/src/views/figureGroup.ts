@@ -1,10 +1,10 @@
 /** The figure of the tab in the dialog of exports: its choices, a preview, and its files. */
-import type { App, Shown } from "../app";
-import { h, paint, save, type Child } from "../dom";
-import { fileName, textFile } from "../exportFile";
-import { figureOfTab, hasFigure, svgText, type DrawnFigure, type FigureChoice } from "../exportFigure";
-import { pngOf } from "../png";
-import { printFigure } from "../printFigure";
+import type { App, Shown } from "./app";
+import { h, paint, save, type Child } from "./dom";
+import { fileName, textFile } from "../exports/exportFile";
+import { figureOfTab, hasFigure, svgText, type DrawnFigure, type FigureChoice } from "../exports/exportFigure";
+import { pngOf } from "../exports/png";
+import { printFigure } from "../exports/printFigure";
 import { figureForm } from "./figureForm";
 
 /** A function that makes a button of an export. */

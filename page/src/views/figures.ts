@@ -1,12 +1,12 @@
 /** The figures in the middle: the choices above them, the sentences, and the chart or table of the tab. */
-import type { App } from "../app";
-import type { Look } from "../charts";
-import { drawGains, drawPower, type ChairModel } from "../chairChart";
-import { columnsOf, hasGains, type Columns } from "../columns";
-import { byId, choice, h, paint, type Child } from "../dom";
-import { grouped } from "../fractions";
-import { chairModel, screenLook } from "../look";
-import { patch } from "../patch";
+import type { App } from "./app";
+import type { Look } from "../charts/charts";
+import { drawGains, drawPower, type ChairModel } from "../charts/chairChart";
+import { columnsOf, hasGains, type Columns } from "../engine/columns";
+import { byId, choice, h, paint, type Child } from "./dom";
+import { grouped } from "../study/fractions";
+import { chairModel, screenLook } from "../charts/look";
+import { patch } from "./patch";
 import { chairTable } from "./chairTable";
 import { tableBehind } from "./chartParts";
 import { isList } from "./chairs";
@@ -14,11 +14,11 @@ import { paintCoalition } from "./coalition";
 import { paintCurve } from "./curve";
 import { markOf, SHORT } from "./rows";
 import { paintSentences } from "./sentences";
-import { MOST_STEPS } from "../steps";
+import { MOST_STEPS } from "../engine/steps";
 import {
   AGAINST, COLUMNS, ORDERS, TABS, THINGS, type Against, type ColumnsShown, type Order, type Tab, type Thing,
-} from "../study";
-import { MAJORITIES, MAJORITY, MEASURE, measureTitle, MEASURES, type Majority, type Measure } from "../words";
+} from "../study/study";
+import { MAJORITIES, MAJORITY, MEASURE, measureTitle, MEASURES, type Majority, type Measure } from "../study/words";
 
 const ORDER_WORDS: Readonly<Record<Order, string>> = {
   number: "number",

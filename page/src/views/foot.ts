@@ -1,11 +1,11 @@
 /** The foot: definitions of the measures, marks, sources, how to cite, script and lines, and licences. */
-import type { App } from "../app";
+import type { App } from "./app";
 import { SOURCES } from "../cited";
-import { openDialog } from "../dialogs";
-import { byId, button, h, paint, type Child } from "../dom";
+import { openDialog } from "./dialogs";
+import { byId, button, h, paint, type Child } from "./dom";
 import licences from "../licences.txt";
-import { firstLines, provenanceOf, studySource } from "../provenance";
-import { MAJORITY, MEASURE, measureTitle } from "../words";
+import { firstLines, provenanceOf, studySource } from "../study/provenance";
+import { MAJORITY, MEASURE, measureTitle } from "../study/words";
 import { openCitation } from "./citation";
 
 function definitions({ view }: App): HTMLElement {

@@ -1,6 +1,6 @@
 /** Long work of a dialog: a new piece of it cancels the one before, and so does the end of the dialog. */
-import type { App } from "../app";
-import type { Report, Task } from "../pool";
+import type { App } from "./app";
+import type { Report, Task } from "../engine/pool";
 
 export class LongWork {
   readonly #app: App;

@@ -1,16 +1,16 @@
 /** The menu of a member: move it, give it other votes, suspend, restore or withdraw it. */
-import type { App } from "../app";
-import { percentage, wholeNumber, type PercentKind, type Typed } from "../amounts";
-import { memberWords } from "../commandWords";
-import { openDialog } from "../dialogs";
-import { button, h } from "../dom";
-import { fractionText, grouped, over, percent } from "../fractions";
-import { moveTo } from "../moves";
-import { isolated } from "../names";
-import { nameOf, withMemberName } from "../naming";
-import { chairChoices, closedChair, type Place } from "../standing";
-import { withAdded, type Command, type Percentage } from "../study";
-import { MOST_VOTES } from "../words";
+import type { App } from "./app";
+import { percentage, wholeNumber, type PercentKind, type Typed } from "../study/amounts";
+import { memberWords } from "../study/commandWords";
+import { openDialog } from "./dialogs";
+import { button, h } from "./dom";
+import { fractionText, grouped, over, percent } from "../study/fractions";
+import { moveTo } from "./moves";
+import { isolated } from "../study/names";
+import { nameOf, withMemberName } from "../study/naming";
+import { chairChoices, closedChair, type Place } from "../engine/standing";
+import { withAdded, type Command, type Percentage } from "../study/study";
+import { MOST_VOTES } from "../study/words";
 import { choiceForm, fieldForm, readField } from "./field";
 import { openThresholds } from "./thresholds";
 

@@ -1,15 +1,15 @@
 /** The dialogs of operations: merging, splitting and dissolving a chair, and votes of several members in per cent. */
-import { percentage } from "../amounts";
-import type { App } from "../app";
-import { changeWords, refusalWords } from "../commandWords";
-import { openDialog } from "../dialogs";
-import { button, byId, h, type Child } from "../dom";
-import { counted } from "../fractions";
-import { lastOutcome, say } from "../moves";
-import { isolated, listed, memberWords } from "../names";
-import { chairChoices, closedChair, type Place } from "../standing";
-import { withAdded, type Operation, type Scale } from "../study";
-import { CHAIRS, MOST_CHAIRS } from "../words";
+import { percentage } from "../study/amounts";
+import type { App } from "./app";
+import { changeWords, refusalWords } from "../study/commandWords";
+import { openDialog } from "./dialogs";
+import { button, byId, h, type Child } from "./dom";
+import { counted } from "../study/fractions";
+import { lastOutcome, say } from "./moves";
+import { isolated, listed, memberWords } from "../study/names";
+import { chairChoices, closedChair, type Place } from "../engine/standing";
+import { withAdded, type Operation, type Scale } from "../study/study";
+import { CHAIRS, MOST_CHAIRS } from "../study/words";
 import { choiceForm, fieldForm, readField } from "./field";
 import { memberTicks } from "./ticks";
 

@@ -1,11 +1,11 @@
 /** The dialog of the independent count: over all coalitions, from the members shown, and compared with the lines. */
-import type { App } from "../app";
-import { openDialog } from "../dialogs";
-import { button, h, paint } from "../dom";
-import { grouped } from "../fractions";
-import type { Reading } from "../reading";
-import { MOST_PLAIN } from "../plain";
-import { MAJORITY } from "../words";
+import type { App } from "./app";
+import { openDialog } from "./dialogs";
+import { button, h, paint } from "./dom";
+import { grouped } from "../study/fractions";
+import type { Reading } from "../engine/reading";
+import { MOST_PLAIN } from "../engine/plain";
+import { MAJORITY } from "../study/words";
 
 /** Counts a reading once more, and returns how many numbers differ from it. */
 async function differing(app: App, reading: Reading): Promise<number> {

@@ -1,6 +1,6 @@
 /** The dialog that says why something wasn't done. */
-import { openDialog } from "../dialogs";
-import { button, h } from "../dom";
+import { openDialog } from "./dialogs";
+import { button, h } from "./dom";
 
 /** Says why something can't be done, and what stands then. */
 export function refuse(why: string, then = ""): void {

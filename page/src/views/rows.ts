@@ -1,15 +1,15 @@
 /** The rows of the list of chairs: the marks of a chair on one line, its numbers beside them, and the list's head. */
 import { scaleLinear, type Linear } from "d3-scale";
-import type { App, Shown } from "../app";
-import { axisText, markPath, onAxis } from "../charts";
-import { columnsOf, type Columns, type Line } from "../columns";
-import { gainText, gainUnit, valueText, type ChairRow } from "../compare";
-import { h, svg, type Child } from "../dom";
-import { difference, grouped, percent, quotient, rounded, type Ratio } from "../fractions";
-import { isolated } from "../names";
-import { measureOf, type ChairReading } from "../reading";
-import type { Order, View } from "../study";
-import { MAJORITY, MEASURE, type Majority } from "../words";
+import type { App, Shown } from "./app";
+import { axisText, markPath, onAxis } from "../charts/charts";
+import { columnsOf, type Columns, type Line } from "../engine/columns";
+import { gainText, gainUnit, valueText, type ChairRow } from "../engine/compare";
+import { h, svg, type Child } from "./dom";
+import { difference, grouped, percent, quotient, rounded, type Ratio } from "../study/fractions";
+import { isolated } from "../study/names";
+import { measureOf, type ChairReading } from "../engine/reading";
+import type { Order, View } from "../study/study";
+import { MAJORITY, MEASURE, type Majority } from "../study/words";
 
 /** The majorities where there is little room. */
 export const SHORT: Readonly<Record<Majority, string>> = {

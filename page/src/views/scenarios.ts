@@ -1,12 +1,12 @@
 /** Named scenarios in their order: the greatest gain and the greatest loss of each at each majority. */
-import type { App } from "../app";
+import type { App } from "./app";
 import { MEASURE_NAMES } from "../cited";
-import { chairRows, emptySentence, extremeCell, type Said } from "../compare";
-import { button, byId, h, type Child } from "../dom";
-import { isolated } from "../names";
-import { patch } from "../patch";
-import { freshId, withChanges, type Scenario, type Study } from "../study";
-import { MAJORITY } from "../words";
+import { chairRows, emptySentence, extremeCell, type Said } from "../engine/compare";
+import { button, byId, h, type Child } from "./dom";
+import { isolated } from "../study/names";
+import { patch } from "./patch";
+import { freshId, withChanges, type Scenario, type Study } from "../study/study";
+import { MAJORITY } from "../study/words";
 
 /** Names of registers that no scenario may have. */
 const TAKEN = ["base", "changed"];

@@ -1,6 +1,6 @@
 /** A script that is shown once it is wanted. */
-import { copy } from "../clipboard";
-import { button, h } from "../dom";
+import { copy } from "../exports/clipboard";
+import { button, h } from "./dom";
 
 /** The script that gives some numbers, closed at first. */
 export function scriptDetails(id: string, of: string, script: string): HTMLElement {

@@ -1,11 +1,11 @@
 /** The sentences above the tabs, each with a button that copies it with its source. */
-import type { App, Shown } from "../app";
-import { copy } from "../clipboard";
-import { chairRows, sentences, type Said } from "../compare";
-import { button, byId, h, icon, type Child } from "../dom";
-import { patch } from "../patch";
-import { provenanceOf, studySource } from "../provenance";
-import { MAJORITY } from "../words";
+import type { App, Shown } from "./app";
+import { copy } from "../exports/clipboard";
+import { chairRows, sentences, type Said } from "../engine/compare";
+import { button, byId, h, icon, type Child } from "./dom";
+import { patch } from "./patch";
+import { provenanceOf, studySource } from "../study/provenance";
+import { MAJORITY } from "../study/words";
 import { markOf } from "./rows";
 
 const COPY = "M5.5 5.5h8v8h-8zM10.5 5.5v-3h-8v8h3";

@@ -1,8 +1,8 @@
 /** The winning coalitions by their number of chairs: the chart's place, readout and table, and the check of sums. */
-import { h, type Child } from "../dom";
-import { counted, fractionText, grouped, percent } from "../fractions";
-import { checkWords, shareOfSize, sizesModel, type SizesModel } from "../sizes";
-import { MAJORITY, type Majority } from "../words";
+import { h, type Child } from "./dom";
+import { counted, fractionText, grouped, percent } from "../study/fractions";
+import { checkWords, shareOfSize, sizesModel, type SizesModel } from "../engine/sizes";
+import { MAJORITY, type Majority } from "../study/words";
 import { chartPlace, pointAt, tableBehind } from "./chartParts";
 import type { Looked } from "./coalitionParts";
 

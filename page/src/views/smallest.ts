@@ -1,10 +1,10 @@
 /** The smallest winning coalitions with a chair, and the chairs that have a veto. */
-import { smallestWith, subsetsWithout, vetoChairs, votesOf, type Smallest } from "../coalitions";
-import { button, byId, choice, h, paint, type Child } from "../dom";
-import { counted, grouped } from "../fractions";
-import { isolated } from "../names";
-import type { Reading } from "../reading";
-import { MAJORITIES, MAJORITY } from "../words";
+import { smallestWith, subsetsWithout, vetoChairs, votesOf, type Smallest } from "../engine/coalitions";
+import { button, byId, choice, h, paint, type Child } from "./dom";
+import { counted, grouped } from "../study/fractions";
+import { isolated } from "../study/names";
+import type { Reading } from "../engine/reading";
+import { MAJORITIES, MAJORITY } from "../study/words";
 import { chairList, readingAt, type Looked } from "./coalitionParts";
 
 /** The coalitions that are listed at most. */

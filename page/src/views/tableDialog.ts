@@ -1,11 +1,11 @@
 /** The preview of a table: its header and columns, the questions about it, and all its faults. */
-import type { App } from "../app";
-import { openDialog } from "../dialogs";
-import { button, choice, h, paint, save, type Child } from "../dom";
-import { counted, grouped } from "../fractions";
-import { hashOf } from "../made";
+import type { App } from "./app";
+import { openDialog } from "./dialogs";
+import { button, choice, h, paint, save, type Child } from "./dom";
+import { counted, grouped } from "../study/fractions";
+import { hashOf } from "../study/made";
 import { orRefuse } from "./refusal";
-import { studyOf } from "../study";
+import { studyOf } from "../study/study";
 import { baseOf } from "../tables/base";
 import { columnName, guessedLayout, layoutWith } from "../tables/columns";
 import type { Thousands } from "../tables/numbers";

@@ -1,14 +1,14 @@
 /** The dialog of thresholds: from how many votes a chair has a veto, carries everything alone, and so on. */
-import type { App, Shown } from "../app";
-import { copy } from "../clipboard";
-import type { Thresholds, ThresholdsAsked } from "../count";
-import { openDialog } from "../dialogs";
-import { button, choice, h, paint, type Child } from "../dom";
-import { fractionText, grouped, percent } from "../fractions";
-import { firstLines, provenanceOf } from "../provenance";
-import type { SweepAsked, Who } from "../study";
-import { aboutWords, thresholdRows, thresholdsText, whoWords, type ThresholdRow } from "../thresholdModel";
-import { MAJORITY, type Majority } from "../words";
+import type { App, Shown } from "./app";
+import { copy } from "../exports/clipboard";
+import type { Thresholds, ThresholdsAsked } from "../engine/count";
+import { openDialog } from "./dialogs";
+import { button, choice, h, paint, type Child } from "./dom";
+import { fractionText, grouped, percent } from "../study/fractions";
+import { firstLines, provenanceOf } from "../study/provenance";
+import type { SweepAsked, Who } from "../study/study";
+import { aboutWords, thresholdRows, thresholdsText, whoWords, type ThresholdRow } from "../engine/thresholdModel";
+import { MAJORITY, type Majority } from "../study/words";
 import { LongWork } from "./longWork";
 import { scriptDetails } from "./scriptDetails";
 import { chairOptions, standingOn, whoKey, whoOf, whoOptions, whoThere } from "./who";

@@ -1,10 +1,10 @@
 /** A list of members with a box to tick for each, and a filter. */
-import type { App } from "../app";
-import { memberWords } from "../commandWords";
-import { button, h, type Child } from "../dom";
-import { namesChair, namesMember } from "../filter";
-import { grouped } from "../fractions";
-import type { Place } from "../standing";
+import type { App } from "./app";
+import { memberWords } from "../study/commandWords";
+import { button, h, type Child } from "./dom";
+import { namesChair, namesMember } from "./filter";
+import { grouped } from "../study/fractions";
+import type { Place } from "../engine/standing";
 
 /** Members that can be ticked: the elements of the list, and the members that are ticked. */
 export interface Ticks {

@@ -1,6 +1,6 @@
 /** The tooltip of charts: a small box beside the pointer or the focus. Nothing on the page moves for it. */
-import { h, type Child } from "../dom";
-import { patch } from "../patch";
+import { h, type Child } from "./dom";
+import { patch } from "./patch";
 
 const ID = "readout";
 /** The distance from the pointer, and from the window's edges. */

@@ -1,18 +1,18 @@
 /** The top bar: the study's name, its summary, and whether all checks passed. */
-import { wholeNumber } from "../amounts";
-import type { App, Shown } from "../app";
-import type { Counted } from "../count";
-import { byId, h, paint } from "../dom";
-import { setDisabled } from "../focus";
-import { counted, grouped } from "../fractions";
-import { SHORT_HASH, VERSION } from "../made";
-import { memberWords } from "../commandWords";
-import { isolated } from "../names";
-import { showValue } from "../patch";
-import type { Place } from "../standing";
-import type { Study } from "../study";
-import { MOST_MEMBERS, MOST_VOTES, reasonOf } from "../words";
-import { Refusal } from "../problem";
+import { wholeNumber } from "../study/amounts";
+import type { App, Shown } from "./app";
+import type { Counted } from "../engine/count";
+import { byId, h, paint } from "./dom";
+import { setDisabled } from "./focus";
+import { counted, grouped } from "../study/fractions";
+import { SHORT_HASH, VERSION } from "../study/made";
+import { memberWords } from "../study/commandWords";
+import { isolated } from "../study/names";
+import { showValue } from "./patch";
+import type { Place } from "../engine/standing";
+import type { Study } from "../study/study";
+import { MOST_MEMBERS, MOST_VOTES, reasonOf } from "../study/words";
+import { Refusal } from "../engine/problem";
 import { mark } from "./field";
 
 /** If there are more names than this, only the cards of chairs show them. */

@@ -1,6 +1,6 @@
 /** Work that a person waits for: its progress, and a button that cancels it. */
-import type { App } from "../app";
-import { button, h } from "../dom";
+import type { App } from "./app";
+import { button, h } from "./dom";
 
 /** Paints the progress of what is waited for; in a dialog that is open, so that its button can be pressed. */
 export function paintWaiting(app: App): void {

@@ -1,9 +1,9 @@
 /** The list of chairs and members whose votes can be varied. */
-import type { Shown } from "../app";
-import { memberWords } from "../commandWords";
-import { isolated } from "../names";
-import type { Standing } from "../standing";
-import type { SweepAsked, Who } from "../study";
+import type { Shown } from "./app";
+import { memberWords } from "../study/commandWords";
+import { isolated } from "../study/names";
+import type { Standing } from "../engine/standing";
+import type { SweepAsked, Who } from "../study/study";
 
 /** The members and chairs of the base, or of the changed board. */
 export function standingOn({ counted }: Shown, on: SweepAsked["on"]): Standing {

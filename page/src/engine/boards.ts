@@ -1,0 +1,118 @@
+/** The place of the registers: a worker made from a blob if the browser allows that for a file, else the page. */
+import workerText from "../../out/worker.txt";
+import { Engine } from "./engine";
+import type { Kind } from "./orders";
+import { Cancelled, pausing } from "./pausing";
+import { Pool, type Answer, type Ask, type Boards, type Desk, type Report, type Task } from "./pool";
+import { problemOf, Refusal } from "./problem";
+import type { Message, Reply } from "../worker";
+
+/** The most workers that a long order is split among, however many processors there are. */
+const MOST_WORKERS = 8;
+
+interface Waiting {
+  take(value: never): void;
+  refuse(why: Error): void;
+  readonly report: Report;
+}
+
+/** A worker that answers orders. */
+class WorkerDesk implements Desk {
+  readonly #worker: Worker;
+  readonly #waiting = new Map<number, Waiting>();
+  #last = 0;
+
+  constructor() {
+    const url = URL.createObjectURL(new Blob([workerText], { type: "text/javascript" }));
+    this.#worker = new Worker(url);
+    this.#worker.onmessage = ({ data }: MessageEvent<Reply>) => this.#take(data);
+    this.#worker.onerror = (event) => {
+      event.preventDefault();
+      this.#stop(new Error("the worker doesn't run"));
+    };
+  }
+
+  #take(reply: Reply): void {
+    const waiting = this.#waiting.get(reply.id);
+    if ("done" in reply) return waiting?.report(reply.done);
+    this.#waiting.delete(reply.id);
+    if ("value" in reply) waiting?.take(reply.value as never);
+    else waiting?.refuse(reply.error.name === "Cancelled" ? new Cancelled() : new Refusal(reply.error));
+  }
+
+  #stop(why: Error): void {
+    for (const { refuse } of this.#waiting.values()) refuse(why);
+    this.#waiting.clear();
+  }
+
+  ask<Some extends Kind>(kind: Some, ask: Ask<Some>, report: Report = () => {}): Task<Answer<Some>> {
+    const id = (this.#last += 1);
+    const send = (message: Message) => this.#worker.postMessage(message);
+    const answer = new Promise<Answer<Some>>((take, refuse) => {
+      this.#waiting.set(id, { take, refuse, report });
+      send({ id, kind, ask });
+    });
+    return { answer, cancel: () => send({ id, kind: "cancel" }) };
+  }
+
+  /** Ends the worker: what it was doing is cancelled. */
+  end(): void {
+    this.#worker.terminate();
+    this.#stop(new Cancelled());
+  }
+}
+
+/** A worker, and for the count over all coalitions, which gives way to nothing, one of its own. */
+class First implements Desk {
+  readonly #desk: WorkerDesk;
+
+  constructor(desk: WorkerDesk) {
+    this.#desk = desk;
+  }
+
+  ask<Some extends Kind>(kind: Some, ask: Ask<Some>, report?: Report): Task<Answer<Some>> {
+    if (kind !== "plain") return this.#desk.ask(kind, ask, report);
+    const own = new WorkerDesk();
+    const { answer } = own.ask(kind, ask, report);
+    return { answer: answer.finally(() => own.end()), cancel: () => own.end() };
+  }
+
+  end(): void {
+    this.#desk.end();
+  }
+}
+
+/** The registers in the page itself. */
+class InPage implements Desk {
+  readonly #engine = new Engine();
+
+  ask<Some extends Kind>(kind: Some, ask: Ask<Some>, report: Report = () => {}): Task<Answer<Some>> {
+    let isCancelled = false;
+    const answer = this.#engine.carryOut(kind, ask, pausing(report, () => isCancelled)).catch((why: unknown) => {
+      throw why instanceof Cancelled ? why : new Refusal(problemOf(why));
+    });
+    return { answer, cancel: () => (isCancelled = true) };
+  }
+
+  end(): void {}
+}
+
+/** A worker that has loaded the module. */
+async function started(bytes: Uint8Array): Promise<WorkerDesk> {
+  const desk = new WorkerDesk();
+  await desk.ask("module", bytes).answer;
+  return desk;
+}
+
+/** Makes the place of the registers. It fails if the browser can't run the module. */
+export async function boardsOver(bytes: Uint8Array): Promise<Boards> {
+  const start = () => started(bytes);
+  try {
+    const most = Math.min(MOST_WORKERS, navigator.hardwareConcurrency || 1);
+    return new Pool("worker", new First(await start()), start, most);
+  } catch {
+    const page = new InPage();
+    await page.ask("module", bytes).answer;
+    return new Pool("page", page, start, 1);
+  }
+}

@@ -1,0 +1,147 @@
+/** The controls that are in the page from its beginning. */
+import type { App } from "./app";
+import { keyboardDrag } from "./carry";
+import { byId } from "./dom";
+import { pointerDrag } from "./drag";
+import { readFiles, readText, refusePaste } from "./files";
+import { keys } from "./keys";
+import { notes } from "./note";
+import { fitTables } from "./paper";
+import { sheets } from "./sheets";
+import { hasMergedCells } from "../tables/html";
+import { withChanges } from "../study/study";
+import { openBest } from "./best";
+import { openExports, saveStudy } from "./exportDialog";
+import { openSeal } from "./foot";
+import { openAdmit } from "./member";
+import { openGroup } from "./operations";
+import { listenChairs, paintChairs } from "./chairs";
+import { openRecount } from "./recount";
+import { orRefuse } from "./refusal";
+import { hideTip } from "./tip";
+import { openPaste } from "./tableDialog";
+import { listenPublished } from "./top";
+
+function onClick(id: string, act: () => void): void {
+  byId(id).addEventListener("click", act);
+}
+
+/** Whether a paste goes into a field: a box to tick or a file's isn't one. */
+function takesText(target: EventTarget | null): boolean {
+  if (target instanceof HTMLInputElement) return !/^(radio|checkbox|range|file|button)$/.test(target.type);
+  return target instanceof HTMLTextAreaElement;
+}
+
+/** Files that are chosen or dropped, and text that is pasted outside of a field. */
+function takeFiles(app: App): void {
+  const file = byId<HTMLInputElement>("file");
+  onClick("open", () => file.click());
+  file.addEventListener("change", () => {
+    void readFiles(app, [...(file.files ?? [])]);
+    file.value = "";
+  });
+  addEventListener("dragover", (event) => event.preventDefault());
+  addEventListener("drop", (event) => {
+    event.preventDefault();
+    const files = [...(event.dataTransfer?.files ?? [])];
+    if (files.length) void readFiles(app, files);
+  });
+  const read = (text: string, name: string) => void readText(app, text, name);
+  onClick("paste", () => openPaste(read));
+  document.addEventListener("paste", (event) => {
+    const plain = event.clipboardData?.getData("text/plain") ?? "";
+    const html = event.clipboardData?.getData("text/html") ?? "";
+    const isPlain = plain.includes("\n") && !hasMergedCells(html);
+    if (takesText(event.target) || (!isPlain && !/<table\b/i.test(html))) return;
+    event.preventDefault();
+    const open = document.querySelector("dialog[open] h2");
+    if (open) refusePaste(open.textContent ?? "");
+    else read(isPlain ? plain : `<html>${html}`, "Pasted table");
+  });
+}
+
+/** Asks before the page is left, if the study has changed since it was opened or saved. */
+function guardLeaving(app: App): void {
+  addEventListener("beforeunload", (event) => {
+    if (!app.isUnsaved) return;
+    event.preventDefault();
+    // Older browsers ask only with this.
+    event.returnValue = "unsaved";
+  });
+}
+
+/** Shows what fails and is caught nowhere else. */
+function reportFailures(app: App): void {
+  addEventListener("unhandledrejection", ({ reason }) => app.report(reason));
+  addEventListener("error", ({ error, message }) => app.report(error ?? message));
+}
+
+/** Paints again when the window, the paper or the colours are others. */
+function watchScreen(app: App): void {
+  let width = innerWidth;
+  addEventListener("resize", () => {
+    if (width !== innerWidth) app.repaint();
+    width = innerWidth;
+  });
+  const paintFor = (isPaper: boolean) => {
+    app.open.isPrinting = isPaper;
+    app.repaint();
+  };
+  addEventListener("beforeprint", () => {
+    paintFor(true);
+    fitTables();
+  });
+  addEventListener("afterprint", () => paintFor(false));
+  matchMedia("(prefers-color-scheme: dark)").addEventListener("change", () => app.repaint());
+}
+
+function buttons(app: App): void {
+  onClick("export", () => openExports(app));
+  onClick("save-study", () => orRefuse(saveStudy(app)));
+  onClick("seal", () => openSeal(app));
+  onClick("best-open", () => openBest(app));
+  onClick("recount-open", () => openRecount(app));
+  onClick("undo", () => app.undo());
+  onClick("redo", () => app.redo());
+  onClick("admit-open", () => openAdmit(app));
+  onClick("group-open", () => openGroup(app));
+  onClick("welcome-close", () => {
+    app.open.isWelcomed = true;
+    app.repaint();
+    byId("paste").focus();
+  });
+  // The menu Display closes at a click elsewhere and by Escape.
+  const display = () => document.querySelector<HTMLDetailsElement>("#display[open]");
+  document.addEventListener("pointerdown", (event) => {
+    const open = display();
+    if (open && !open.contains(event.target as Node)) open.open = false;
+  });
+  document.addEventListener("keydown", (event) => {
+    const open = display();
+    if (event.key !== "Escape" || !open) return;
+    open.open = false;
+    open.querySelector("summary")?.focus();
+  });
+  addEventListener("scroll", hideTip, { passive: true });
+  onClick("clear-changes", () => app.take(withChanges(app.study, [])));
+}
+
+/** Listens to the controls that are in the page from its beginning. */
+export function listen(app: App): void {
+  takeFiles(app);
+  notes();
+  buttons(app);
+  byId("filter").addEventListener("input", () => {
+    app.open.filter = byId<HTMLInputElement>("filter").value;
+    paintChairs(app);
+  });
+  listenPublished(app);
+  listenChairs(app);
+  pointerDrag(app);
+  keyboardDrag(app);
+  keys(app);
+  sheets();
+  guardLeaving(app);
+  watchScreen(app);
+  reportFailures(app);
+}
