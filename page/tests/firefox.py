@@ -175,6 +175,7 @@ class FirefoxPage(Page):
         return super().at(place)
 
     def write(self, place: str, text: str) -> None:
+        self.reach(place)
         self.run("document.querySelector(arguments[0]).select();", place)
         self.at(place).send_keys(text, Keys.ENTER)
         self.settle()

@@ -31,6 +31,6 @@ def test_firefox(oracle: Oracle) -> None:
         check_lines(fox, oracle, [])
         assert fox.send("WebDriver:ExecuteAsyncScript", script=ACTS, args=["votes", "XAD", "+40%"])["value"] is True
         check_lines(fox, oracle, ["votes,XAD,318104"])
-        drawn = fox.run('return [...document.querySelectorAll(".chart g[data-chair]")].length;')
+        drawn = fox.run('return document.querySelectorAll("#cards .card:has(.plot)").length;')
         asked = fox.run('return performance.getEntriesByType("resource").map((it) => it.name);')
         assert drawn == 24 and not [it for it in asked if not it.startswith(("blob:", "data:"))], json.dumps(asked)

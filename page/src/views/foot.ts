@@ -53,7 +53,7 @@ export function isSourceOpen(): boolean {
   return document.querySelector<HTMLDetailsElement>("#source")?.open ?? false;
 }
 
-/** The script and its lines, filled when they are opened. */
+/** The script and its lines, filled when they are opened, and emptied when they are closed. */
 function source(app: App): HTMLElement {
   const wasOpen = isSourceOpen();
   const script = h("pre", { id: "script-text", tabindex: 0, role: "region", "aria-label": "Script" });
@@ -68,10 +68,10 @@ function source(app: App): HTMLElement {
     lines,
   );
   const fill = async () => {
-    if (!details.open || !app.shown) return;
-    const text = app.shown.counted.script;
-    script.textContent = text;
-    lines.textContent = await app.counter.lines(text).catch(String);
+    const text = details.open && app.shown ? app.shown.counted.script : "";
+    [script.textContent, lines.textContent] = [text, ""];
+    const found = text && (await app.counter.lines(text).catch(String));
+    if (script.textContent === text) lines.textContent = found;
   };
   details.addEventListener("toggle", () => void fill());
   details.open = wasOpen;
