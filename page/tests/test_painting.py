@@ -34,7 +34,7 @@ def kept(page: Page) -> float:
 
 
 def test_elements_stay(page: Page) -> None:
-    # Catches: a page that is made anew at each act, so that a screen reader and a selection lose their place.
+    # Catches: a page that is built from scratch at each act, so that a screen reader and a selection lose their place.
     assert page.act("votes", "XAD", "300000")
     page.run(MARK)
     page.write("#number-1", "310000")

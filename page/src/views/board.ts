@@ -28,7 +28,7 @@ const QUANTITIES: readonly Quantity[] = [
   whole("Winning", false, (it) => it.winning),
 ];
 
-/** The power to act in per cent, with so many places that two figures are there. */
+/** The power to act in per cent, with enough places for two significant digits. */
 function actText({ act }: Reading, digits: number): string {
   if (!act) return "-";
   if (act.numerator * 100n >= act.denominator) return `${percent(act, digits)} %`;
@@ -37,7 +37,7 @@ function actText({ act }: Reading, digits: number): string {
   return `${percent(act, places)} %`;
 }
 
-/** A small chance as one in so many. */
+/** A small chance as one in n. */
 function oneIn({ act }: Reading): string {
   if (!act || act.numerator === 0n || act.numerator * 10n > act.denominator) return "";
   const many = over(act.denominator, act.numerator);

@@ -148,7 +148,7 @@ function sweepWords(app: App): string {
   return `${points} were counted in ${sweep.milliseconds.toFixed(0)} ms${workers}.`;
 }
 
-/** Paints the tab. Its form stays while the board changes; what it says is made anew. */
+/** Paints the tab. Its form stays while the board changes; what it says is built from scratch. */
 export function paintCurve(app: App): void {
   const { shown, curve } = app;
   if (!shown) return;
