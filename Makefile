@@ -158,8 +158,9 @@ steps: $(stepped)  ## the atomic steps, memory and writes of the compiled code
 	$(call said,tools/steps tools/steps.txt $^)
 steps-tests: $O/memory_tests.bc  ## changes planted in the compiled code, which steps must refuse
 	$(call said,tests/run tests/steps)
+every = $(if $(DEEP),$(EDITED))
 edits:  ## the mutations of the crates that have changed since theirs were tried, or of ONLY=CRATE; writes the records
-	@$(MAKE) --keep-going $(or $(patsubst %,$O/%.edits,$(or $(ONLY),$(shell tools/edits.py --untried))),tried)
+	@$(MAKE) --keep-going $(or $(patsubst %,$O/%.edits,$(or $(ONLY),$(every),$(shell tools/edits.py --untried))),tried)
 tried:  ## the mutations, by the records of those that were tried
 	$(call said,tools/edits.py --tried)
 # One list of mutations of one crate, drawn by the commit, tried over no kept work.
@@ -232,7 +233,7 @@ gate:  ## all that must pass before a change lands
 deep: export GATE := 1
 deep: export DEEP := 1
 deep:  ## everything in full, before a release: some hours
-	+@$(call judged,"$(FIRST)" "unproved proved" release-tests "edits ONLY=$(EDITED)" from-text,,\
+	+@$(call judged,"$(FIRST)" "unproved proved" release-tests edits from-text,,\
 	  $(FIRST) $(UNPROVED) $(PROVED) release-tests from-text)
 clean:  ## removes all results
 	@rm -rf $O {portable/wasm,page,portable}/out

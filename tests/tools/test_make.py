@@ -75,6 +75,13 @@ def test_one_crate_is_drawn(copy: Copy) -> None:
     assert crate == checked and (TOP / "crates" / crate / "must-fail").is_dir()
 
 
+def test_the_deep_gate_tries_all_mutations(copy: Copy) -> None:
+    # Catches: a crate whose mutations the deep gate leaves out.
+    said = copy.make("--dry-run", "edits", "DEEP=1")
+    edited = {it.parent.name for it in TOP.glob("crates/*/must-fail")}
+    assert {*re.findall(r"tools/edits\.py crates/(\w+) ", said)} == edited
+
+
 def test_a_check_from_text_is_made_of_each_crate(copy: Copy) -> None:
     # Catches: a crate that `make from-text` leaves out, or checks over what was checked before.
     commands = copy.make("--dry-run", "from-text")
