@@ -172,7 +172,11 @@ cases: $(PROGRAM)  ## worked examples, and the examples of the documents, on the
 	$(call said,$(if $(KIT),tests/run tests/cases,tests/cases/run --c $(BOARD)))
 independent: $(PROGRAM)  ## the program against a Python reader written from the documents alone
 	$(call said,tests/run tests/independent $(if $(KIT),,--inputs 600))
-memory: $O/proved $O/board_replay.bc  ## each allocation refused in turn
+definitions: $O/proved  ## the definition of a replay, computed by the prover, against the independent reader
+	$(call said,tests/run tests/definitions)
+second: $(PROGRAM)  ## the definitions and their laws in Coq, and the program against what they compute
+	$(call said,tests/run tests/second -n 2)
+memory: $O/proved $(modules)  ## each allocation refused in turn
 	$(call said,tests/run tests/memory)
 stress: $O/proved  ## rounds of the running board and of serve in real threads
 	$(call said,tests/run tests/stress)
@@ -188,7 +192,7 @@ compilers: $(PROGRAM) $(if $(KIT),one-file)  ## the C file by each compiler and 
 	$(call said,tests/run tests/portable -n $(JOBS) $(if $(KIT),,-k 'not test_another_folder and not test_is_made'))
 # What the program answers to boards, scripts and commands, with which each package is compared.
 answers := $O/answers$(if $(DEEP),-deep)/register.txt
-$(answers): $(PROGRAM) tests/packages/answers.py $(wildcard tests/shared/*.py tests/cases/*)
+$(answers): $(PROGRAM) $(wildcard tests/packages/* tests/shared/*.py tests/cases/*)
 	@mkdir -p $(@D) && python3 -m tests.packages.answers $(BOARD) $(@D)
 python: $(answers)  ## the package for Python: built, installed in fresh environments, and tested there
 r: $(answers)  ## the package for R
@@ -207,12 +211,14 @@ release-tests: release $(answers)  ## a release, unpacked and run without the to
 from-text: $(CRATES:%=$O/deep/%.proved)  ## all proofs, the toolchain's too, from their text
 	$(call said,printf '%s proved from its text\n' $(CRATES) "$(words $(CRATES)) passed, 0 failed")
 
-# The parts that come first, those that need no proof, and those that do. Those of the last two run side by side.
+# The parts that come first, those that need no proof, those that do, which run beside them, and those of the deep gate
+# alone.
 FIRST    := docs lint tried style tools
 UNPROVED := page-tests r python rust javascript recipes tables page-units
-PROVED   := prove drawn stress memory cases independent register script steps steps-tests targets compilers
+PROVED   := prove drawn definitions stress memory cases independent register script steps steps-tests targets compilers
+DEEPER   := release-tests second
 CHECKS   := docs lint tables page-units cases independent
-.PHONY: $(FIRST) $(UNPROVED) $(PROVED) release-tests edits unproved proved
+.PHONY: $(FIRST) $(UNPROVED) $(PROVED) $(DEEPER) edits unproved proved
 unproved:
 	+@$(MAKE) --keep-going $(UNPROVED) KIT=
 proved:
@@ -233,8 +239,8 @@ gate:  ## all that must pass before a change lands
 deep: export GATE := 1
 deep: export DEEP := 1
 deep:  ## everything in full, before a release: some hours
-	+@$(call judged,"$(FIRST)" "unproved proved" release-tests edits from-text,,\
-	  $(FIRST) $(UNPROVED) $(PROVED) release-tests from-text)
+	+@$(call judged,"$(FIRST)" "unproved proved" "$(DEEPER)" edits from-text,,\
+	  $(FIRST) $(UNPROVED) $(PROVED) $(DEEPER) from-text)
 clean:  ## removes all results
 	@rm -rf $O {portable/wasm,page,portable}/out
 help:  ## this list

@@ -8,7 +8,6 @@ import subprocess
 HERE = pathlib.Path(__file__).resolve().parent
 OUT = HERE.parent / "out"
 WORK = OUT / "bench"
-LIBRARIES = ["board_c", "board_register", "board_replay", "board_script"]
 
 
 #: The crates that the programs over the library use, and those that some of them use.
@@ -61,15 +60,10 @@ def build(program: str) -> list[str]:
     return [str(folder / "it")]
 
 
-def library(name: str) -> pathlib.Path:
-    """A static library."""
-    make(f"{name}.bc")
-    return OUT / f"lib{name}.a"
-
-
 def archives() -> list[pathlib.Path]:
-    """The static libraries of all calls, and what they need of the kit."""
-    return [*map(library, LIBRARIES), kit() / "c" / "liblibc_c.a"]
+    """The static library, and what it needs of the kit."""
+    make("board_c.bc")
+    return [OUT / "libboard_c.a", kit() / "c" / "liblibc_c.a"]
 
 
 def compiled(source: str | pathlib.Path, name: str, *words: str | pathlib.Path, compiler: str = "cc") -> pathlib.Path:

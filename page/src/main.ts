@@ -13,6 +13,7 @@ import { sheetOf } from "./tables/text";
 import { NO_ANSWERS } from "./tables/types";
 import { FIRST_VIEW, studyOf } from "./study/study";
 import { readData, type StudyData } from "./study/studyData";
+import { checkScript } from "./views/files";
 import { listen } from "./views/listen";
 import { paintPage } from "./views/paint";
 import { paintWaiting } from "./views/waiting";
@@ -31,12 +32,12 @@ async function begin(): Promise<void> {
   const bytes = moduleBytes();
   const [boards, hash] = await Promise.all([boardsOver(bytes), hashOf(bytes)]);
   const counter = new Counter(boards);
-  const { study, view } = held ?? (await example(counter));
+  const { study, view, scriptHash } = held ?? (await example(counter));
   const app = new App(study, view, counter, hash === MODULE_HASH, paintPage);
   if (!held) app.example = study.base.script;
   app.repaintWaiting = () => paintWaiting(app);
   listen(app);
-  await app.count();
+  await Promise.all([app.count(), checkScript(app, scriptHash)]);
 }
 
 // From here on an error is no sign of an old browser.

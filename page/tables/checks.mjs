@@ -31,6 +31,11 @@ export function checkNothingIsLost(sheet, layout, base) {
 export function checkNothingIsMended(sheet, layout, base) {
   const said = base.choices.join("\n");
   for (const { row, name, votes, code } of base.members) {
+    if (row === 0) {
+      const many = votes.toLocaleString("en");
+      assert.match(said, new RegExp(`${name}: a member in no chair with ${many} votes was added`));
+      continue;
+    }
     const cell = (meaning) => sheet.rows[row - 1][layout.columns[meaning]] ?? "";
     const votesCell = layout.columns.votes < 0 ? String(votes) : cell("votes");
     const converted = /Marks between|Numbers such as|Footnote marks|Zeros before/;

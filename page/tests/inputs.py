@@ -169,11 +169,12 @@ READ: dict[str, tuple[str, list[str], str, str, list[str]]] = {
         "name,votes,chair\nAlland,40,Hills\nBelland,25,Plains\nTotal,65,\n",
         [],
         "2 members, 65 votes; 2 chairs; every member is in a chair",
-        "ALL,40 BEL,25 script open,1 open,2 move,ALL,1 move,BEL,2",
+        "XAA,40 XAB,25 script open,1 open,2 move,XAA,1 move,XAB,2",
         [
             "Chairs have names: they were numbered in the order in which they appear: 1 Hills; 2 Plains",
             "Row 4 (Total, 65 votes), the sum of rows 2 to 3, was left out as a total",
-            "The table has no codes: they were made from names: ALL Alland; BEL Belland",
+            "The table has no codes: they were made from names (a country's by ISO 3166, and else one that no country "
+            "has): XAA Alland; XAB Belland",
         ],
     ),
     "a suspended member": (
@@ -298,8 +299,8 @@ WORKBOOK = xlsx_of(
     {"D": 1, "E": 2},
 )
 WORKBOOK_SCRIPT = (
-    "UNI,831401 ARM,2743 BEL,65567 KOS,86988 script open,1 open,2 move,UNI,1 move,ARM,2 move,BEL,2 move,KOS,2 "
-    "suspend,KOS"
+    "USA,831401 ARM,2743 BEL,65567 XKX,86988 script open,1 open,2 move,USA,1 move,ARM,2 move,BEL,2 move,XKX,2 "
+    "suspend,XKX"
 ).split()
 # A table on the clipboard as HTML, as a spreadsheet or a browser gives it.
 HTML = """<meta charset="utf-8"><style>td { color: red }</style>
@@ -308,4 +309,4 @@ HTML = """<meta charset="utf-8"><style>td { color: red }</style>
 <tr style="color: red"><td rowspan="3" style='x'>Hilbers<!-- x --></td><td>Armenia</td><td>2,743</td></tr>
 <tr><td>Belgium</td><td> 65,567 </td></tr>
 <tr><td>Kosovo<sup>2</sup></td><td>86,988</td></tr></table>"""
-HTML_SCRIPT = "UNI,831401 ARM,2743 BEL,65567 KOS,86988 script open,1 open,2 move,UNI,1 move,ARM,2 move,BEL,2 move,KOS,2"
+HTML_SCRIPT = "USA,831401 ARM,2743 BEL,65567 XKX,86988 script open,1 open,2 move,USA,1 move,ARM,2 move,BEL,2 move,XKX,2"

@@ -182,6 +182,71 @@ def test_keyboard_alone(page: Page, oracle: Oracle) -> None:
     check_figures(page, oracle, [])
 
 
+def test_a_study_by_keyboard(page: Page) -> None:
+    # Catches: a table that can't be loaded without a mouse, or a study that can't be changed, kept, exported or undone.
+    tab_to(page, "#paste")
+    page.press(Keys.ENTER)
+    tab_to(page, "#paste-text")
+    page.run("document.activeElement.value = arguments[0];", inputs.PRINTED.replace("|", "\t"))
+    for place in ["#paste-take", "#table-take"]:
+        tab_to(page, place)
+        page.press(Keys.ENTER)
+    page.until(lambda: not page.all("dialog") and page.all("#card-2"), "the table")
+    page.settle()
+    tab_to(page, "#card-2")
+    page.press(Keys.ENTER)
+    tab_to(page, "#cards .chip")
+    page.press(Keys.SPACE)
+    page.press(Keys.ARROW_UP)
+    page.press(Keys.ENTER)
+    page.until(lambda: len(page.all("#changes > li")) == 1, "the move")
+    tab_to(page, "#scenario-name")
+    page.press("Moved", Keys.ENTER)
+    page.until(lambda: page.all("#scenarios"), "the scenario")
+    tab_to(page, "#tab-power")
+    page.press(Keys.ARROW_RIGHT, Keys.ARROW_RIGHT, Keys.ARROW_RIGHT)
+    page.until(lambda: page.all("#chair-table"), "the table of chairs")
+    tab_to(page, "#export")
+    page.press(Keys.ENTER)
+    tab_to(page, "#export-copy")
+    page.press(Keys.ENTER)
+    page.until(lambda: page.at("#export-words").text, "what was copied")
+    page.press(Keys.ESCAPE)
+    page.until(lambda: not page.all("dialog"), "the dialog's end")
+    for _ in range(2):
+        page.driver.switch_to.active_element.send_keys(Keys.CONTROL, "z")
+        page.settle()
+    assert not page.all("#changes > li") and not page.all("#scenarios")
+
+
+# Where the parts of the dialog that reads a table are: the preview, its fields, and the buttons at its foot; and the
+# height of the screen.
+DIALOG = """
+  const box = (place) => document.querySelector(`#table-dialog ${place}`).getBoundingClientRect();
+  document.getElementById("table-dialog").scrollTop = arguments[0];
+  const take = box("#table-take");
+  return [box("#preview").top, box("#header-row").top, take.top, take.bottom, innerHeight];
+"""
+
+
+@pytest.mark.parametrize("width, height", [(1280, 720), (NARROW, 844), (SMALLEST, 640)])
+def test_dialog_of_a_table(page: Page, width: int, height: int) -> None:
+    # Catches: a table's preview below nine fields, a button that is scrolled away, two that look like the one to press,
+    # and a screen full of notices.
+    page.show(width, height)
+    *first, last, one, two, three = inputs.PRINTED.splitlines()
+    rows = [f"\tLand {chr(97 + at % 26)}{at}\t{1000 + at:,}\t\t" for at in range(40)]
+    page.run(DROP, "long.txt", "\n".join([*first, *rows, last, one, two, three]))
+    page.until(lambda: page.all("#table-take"), "the dialog")
+    for preview, fields, above, below, screen in [page.run(DIALOG, it) for it in (0, 99_999)]:
+        assert preview < fields and screen - 200 < above < below <= screen
+    assert len(page.all("#table-dialog .primary")) == 1
+    assert page.at("#table-take").text == "Take this table"
+    assert page.at("#notices summary").text.endswith(" tidied or left out")
+    assert not page.at("#table-notices").is_displayed()
+    assert not page.look("wide", width)
+
+
 def test_charts_have_tables(page: Page) -> None:
     # Catches: a row that a screen reader can't read: its button has its numbers, and so has the table.
     assert page.act("move", "XAA", "2")

@@ -38,6 +38,7 @@ def try_all(page: Page, majority: str = "85") -> None:
     """Tries all members in any chair."""
     page.click("#best-open")
     page.choose("#best-chair", "any")
+    page.click("#best-empty")
     page.choose("#best-at", majority)
     page.click("#best-run")
     page.until(lambda: page.all("#best-table"), "the moves")
@@ -163,6 +164,7 @@ def test_cancelled(page: Page) -> None:
     opened(page, WEIGHTY)
     page.click("#best-open")
     page.choose("#best-chair", "any")
+    page.click("#best-empty")
     for end in ["#waiting-cancel", "#best .close"]:
         page.click("#best-run")
         page.until(lambda: page.all("dialog #waiting progress[value]"), "the progress")

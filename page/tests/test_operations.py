@@ -256,7 +256,7 @@ def test_refused_as_a_whole(page: Page, oracle: Oracle) -> None:
     assert state(page) == ["off", "accepted"]
     assert check(page, oracle, expected(oracle, "merge,10,5")) >= FEWEST
     page.click("#split-5")
-    assert not page.text("#split [role=status].wrong")
+    assert not page.text("#split-suspended")
     page.press(Keys.ESCAPE)
 
 
@@ -265,11 +265,11 @@ def test_a_ticked_member_that_is_suspended(page: Page) -> None:
     assert page.act("suspend", "XBW")
     page.click("#card-10")
     page.click("#split-10")
-    assert not page.text("#split [role=status].wrong")
+    assert not page.text("#split-suspended")
     page.click("#split-tick-XBW")
-    assert page.text("#split [role=status].wrong").startswith("XBW Elsenia is suspended.")
+    assert page.text("#split-suspended").startswith("XBW Elsenia is suspended.")
     page.click("#split-tick-XBW")
-    assert not page.text("#split [role=status].wrong")
+    assert not page.text("#split-suspended")
 
 
 def test_a_full_board(page: Page, oracle: Oracle) -> None:

@@ -49,6 +49,30 @@ def test_elements_stay(page: Page) -> None:
     assert page.run("return [...document.querySelectorAll('#cards *')].every((it) => marked.has(it));")
 
 
+def test_elements_of_other_tabs_stay(page: Page) -> None:
+    # Catches: a tab Coalition or a curve that is built from scratch at each edit and each tick.
+    assert page.act("votes", "XAD", "300000")
+    page.click("#tab-coalition")
+    page.click("#tick-2")
+    page.click("#tick-3")
+    page.run(MARK)
+    page.write("#number-1", "310000")
+    page.run('getSelection().selectAllChildren(document.querySelector("#verdict-table th"));')
+    page.run('document.getElementById("on-1").click(); document.getElementById("tick-4").click();')
+    page.settle()
+    assert kept(page) > 0.95 and page.run("return String(getSelection()).trim();") == "simple majority"
+    page.click("#on-1")
+    page.click("#tab-curve")
+    page.choose("#sweep-on", "changed")
+    page.click("#sweep-run")
+    page.until(lambda: page.all("#sweep-table"), "the sweep")
+    page.click("details:has(#sweep-script) summary")
+    page.run(MARK)
+    page.write("#number-1", "320000")
+    page.until(lambda: "XAD,320000" in page.text("#sweep-script"), "the sweep's new script")
+    assert kept(page) > 0.95
+
+
 def test_typed_text_stays(page: Page) -> None:
     # Catches: a scenario's name, a sweep's field or a refused number that is lost to an act somewhere else.
     assert page.act("votes", "XAD", "+40%")

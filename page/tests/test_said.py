@@ -155,11 +155,11 @@ def test_citation(page: Page) -> None:
     page.click("#cite-open")
     page.until(lambda: page.all("#cite-bibtex"), "the citation")
     bibtex = page.text("#cite-bibtex")
-    assert r"R\&D\_50\% \{draft\}" in bibtex
+    assert r"R\&D\_50\% \textbraceleft{}draft\textbraceright{}" in bibtex
     bare = re.sub(r"\\.", "", bibtex)
     assert bare.count("{") == bare.count("}") and not re.search("[&%#_]", bare)
-    [date] = re.findall(r"  date = {(\d{4}-\d{2}-\d{2})},", bibtex)
-    assert f"({date})" in page.text("#cite-text")
+    [date] = re.findall(r" of (\d{4}-\d{2}-\d{2})},", bibtex)
+    assert f" of {date}. " in page.text("#cite-text")
     assert date in (page.file.parent.parent.parent / "CHANGELOG.md").read_text()
 
 

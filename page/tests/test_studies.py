@@ -1,6 +1,7 @@
 """Sweeps with their thresholds, scenarios side by side, the best move, the slider and the independent count."""
 from __future__ import annotations
 
+import json
 from typing import Any
 
 import inputs
@@ -200,3 +201,32 @@ def test_independent_count(page: Page) -> None:
     page.click("#recount-run")
     same = "all 4 numbers are the same, 8 coalitions"
     page.until(lambda: [same in it for it in page.texts("#recount-results li")] == [True, True], "the same numbers")
+
+
+def test_a_changed_file(page: Page) -> None:
+    # Catches: a study that was changed outside of the page, and that goes on under the hash of a table that never had
+    # its votes; a file that is cut off or in another order and that a person can't tell apart from a table.
+    assert page.act("votes", "XAD", "300000")
+    _, content = page.downloaded("#save-study")
+    text = content.decode()
+    old, new = "XAB,405406", "XAB,505406"
+    assert old in text
+    data = json.loads(text)
+    twice = json.dumps({**data, "study": {**data["study"], "changes": data["study"]["changes"] * 2}})
+    turned = json.dumps(dict(reversed(data.items())))
+    files = {"same": text, "other": text.replace(old, new), "turned": turned, "cut": text[:-900], "twice": twice}
+    for name, given in files.items():
+        page.open()
+        page.run(DROP, f"{name}.study.json", given)
+        page.until(lambda: page.all("#changes > li") or page.all("#refusal"), name)
+        page.settle()
+        if name in ("other", "twice"):
+            page.until(lambda: page.all("#refusal"), "what is wrong")
+        said = page.text("#refusal") if page.all("#refusal") else ""
+        assert ("no longer has the hash" in said) == (name in ("other", "twice")), (name, said)
+        assert ("breaks off before its end" in said) == (name == "cut"), (name, said)
+        page.run("document.querySelector('dialog .close')?.click();")
+        ids = page.run("return [...document.querySelectorAll('#changes > li')].map((it) => it.dataset.id);")
+        assert len(set(ids)) == len(ids) == {"cut": 0, "twice": 2}.get(name, 1)
+        if name == "other":
+            assert "# table" in (csv := page.act("exported", "export-csv")) and " sha256 none" in csv.split("\n")[2]

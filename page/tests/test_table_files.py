@@ -413,9 +413,9 @@ def test_citation(study: Page, oracle: Oracle) -> None:
     study.until(lambda: study.all("#cite-bibtex"), "the citation")
     text, bibtex = study.text("#cite-text"), study.text("#cite-bibtex")
     script = sha256(oracle.script(COMMANDS, MAJORITIES).encode())
-    assert f"{author}. board {version} ({date})" in text and f"script sha256 {script}" in text
-    assert f"author = {{{{{author}}}}}" in bibtex and f"year = {{{date[:4]}}}" in bibtex
-    assert f"version = {{{version}}}" in bibtex and f"date = {{{date}}}" in bibtex and script in bibtex
+    assert text.startswith(f"{author} ({date[:4]}). board: ") and text.endswith(f"script with SHA-256 {script}.")
+    assert f"version {version} of {date}" in text and "author = {{" + author + "}}" in bibtex
+    assert len(re.findall("[0-9a-f]{64}", bibtex)) == len(re.findall("[0-9a-f]{64}", text)) == 1 and script in bibtex
     assert not re.search("https?:|doi|url", (text + bibtex).lower())
     study.at("#cite-bibtex-copy").send_keys(Keys.ENTER)
     study.until(lambda: study.text("#cite-words"), "a word of the copy")

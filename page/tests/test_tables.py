@@ -151,10 +151,11 @@ def test_total_row(page: Page, oracle: Oracle, is_total: bool) -> None:
 def test_names_alone(page: Page) -> None:
     # Catches: a table without codes, or with chairs by name, that can't be taken.
     paste(page, inputs.NAMES)
+    page.click("#aggregate-6-no")
     take(page)
     script = records(page)
-    assert script[:5] == ["ALL,40", "BEL,25", "CEL,15", "DEL,12", "ELL,8"]
-    assert script[6:] == ["open,1", "open,2", "open,3", "move,ALL,1", "move,BEL,2", "move,CEL,2", "move,DEL,3"]
+    assert script[:5] == ["XAA,40", "XAB,25", "XAC,15", "XAD,12", "XAE,8"]
+    assert script[6:] == ["open,1", "open,2", "open,3", "move,XAA,1", "move,XAB,2", "move,XAC,2", "move,XAD,3"]
     assert [it.split("\n")[0] for it in page.texts(".card-head")][:3] == ["1 Harbours", "2 Hills", "3 Plains"]
     assert "made from names" in page.text("#choices")
 
@@ -170,8 +171,8 @@ def test_as_the_fund_prints_it(page: Page) -> None:
     assert (
         records(page)
         == (
-            "UNI,831401 JAP,309205 ARM,2743 BEL,65567 KOS,1232 NET,154209 script open,1 open,2 open,3 "
-            "move,UNI,1 move,JAP,2 move,ARM,3 move,BEL,3 move,KOS,3 move,NET,3"
+            "USA,831401 JPN,309205 ARM,2743 BEL,65567 XKX,1232 NLD,154209 script open,1 open,2 open,3 "
+            "move,USA,1 move,JPN,2 move,ARM,3 move,BEL,3 move,XKX,3 move,NLD,3"
         ).split()
     )
 
@@ -389,8 +390,8 @@ def test_save_it_cleaned(page: Page) -> None:
     assert name == "Pasted table-members.csv"
     assert content.decode() == (
         "code,name,votes,chair,chair_name,suspended\n"
-        "UNI,United States,831401,1,Smith,false\nJAP,Japan,309205,2,Tanaka,false\nARM,Armenia,2743,3,Hilbers,false\n"
-        "BEL,Belgium,65567,3,Hilbers,false\nKOS,Kosovo,1232,3,Hilbers,false\nNET,Netherlands,154209,3,Hilbers,false\n"
+        "USA,United States,831401,1,Smith,false\nJPN,Japan,309205,2,Tanaka,false\nARM,Armenia,2743,3,Hilbers,false\n"
+        "BEL,Belgium,65567,3,Hilbers,false\nXKX,Kosovo,1232,3,Hilbers,false\nNLD,Netherlands,154209,3,Hilbers,false\n"
     )
     take(page)
     first = records(page)

@@ -5,7 +5,8 @@ import { test } from "node:test";
 import { indices } from "../../bindings/javascript/src/indices";
 import { loadSync } from "../../bindings/javascript/src/load";
 import {
-  checkOf, coalitionsBySize, smallestWith, subsetsWithout, verdictOf, vetoChairs, winningBySize, type Rule,
+  blockingRule, checkOf, coalitionsBySize, smallestWith, subsetsWithout, verdictOf, vetoChairs, winningBySize,
+  type Rule,
 } from "../src/engine/coalitions";
 import { Subsets } from "../src/engine/subsets";
 import { MAJORITIES, type Majority } from "../src/study/words";
@@ -194,4 +195,26 @@ test("32 chairs with the most votes", () => {
     assert.deepEqual(wins, Array.from({ length: 20 }, () => true));
   }
   assert.equal(coalitionsBySize(32).reduce((sum, it) => sum + it, 0), 2 ** 32);
+});
+
+test("coalitions that can block", () => {
+  // Catches: a coalition that blocks by a vote too few, a quorum that is blocked by votes alone, a list that isn't of
+  // the smallest, and a number of all that isn't that of the losing ones.
+  let found = 0;
+  for (const { board, majority } of EACH.filter((it) => it.board.votes.length)) {
+    const rule = ruleOf(board, majority);
+    const last = 2 ** board.votes.length - 1;
+    const blocks = all(board).filter((_, bits) => !isWinning(board, majority, coalition(board, bits ^ last)));
+    assert.equal(blocks.length, all(board).length - rule.winning);
+    for (const [place, chair] of board.numbers.entries()) {
+      const own = blocks.filter((it) => it.places.includes(place));
+      const least = Math.min(...own.map((it) => it.places.length));
+      const wanted = own.filter((it) => it.places.length === least);
+      const smallest = smallestWith(blockingRule(rule, chair), chair, subsetsWithout(rule.chairs, chair), 5000);
+      const lists = wanted.map((it) => it.places.map((at) => board.numbers[at] ?? 0)).map(String).sort();
+      assert.deepEqual(smallest?.first.map(String).sort(), lists, JSON.stringify([board, majority, chair]));
+      found += 1;
+    }
+  }
+  assert.ok(found > 3000);
 });

@@ -115,8 +115,8 @@ test("a chair that is closed and opened again is a new one", async () => {
     { kind: "open", chair: 9 },
   );
   const { opening, standing } = await ask("count", { base: await based(), changes, majorities: ["half"] });
-  assert.deepEqual([opening.open, opening.opened], [[1, 2, 3], []]);
-  assert.deepEqual([standing.open, standing.opened], [[1, 2, 3, 9], [3, 9]]);
+  assert.deepEqual([opening.open, opening.opened], [[1, 2, 3], {}]);
+  assert.deepEqual([standing.open, standing.opened], [[1, 2, 3, 9], { 3: 2, 9: 3 }]);
 });
 
 test("points of a sweep", async () => {

@@ -43,9 +43,10 @@ test("the name of an admitted member", () => {
 
 test("a chair's name", () => {
   // Catches: a chair without a name that keeps its old one, or is named by an empty text.
-  assert.deepEqual(withChairName(STUDY, "1", "Plains").base.chairNames, { 1: "Plains" });
-  assert.deepEqual(withChairName(STUDY, "2", "Plains").base.chairNames, { 1: "Hills", 2: "Plains" });
-  assert.deepEqual(withChairName(STUDY, "1", "").base.chairNames, {});
+  const names = (chair: number, name: string) => withChairName(STUDY, chair, undefined, name).base.chairNames;
+  assert.deepEqual(names(1, "Plains"), { 1: "Plains" });
+  assert.deepEqual(names(2, "Plains"), { 1: "Hills", 2: "Plains" });
+  assert.deepEqual(names(1, ""), {});
 });
 
 test("a text as a name", () => {

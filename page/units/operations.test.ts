@@ -226,7 +226,7 @@ test("the script of a list with operations gives the readings", async () => {
   assert.deepEqual(commands.map((it) => it.kind), [
     "suspend", "open", "move", "move", "votes", "votes", "move", "move", "close", "open",
   ]);
-  assert.deepEqual([standing.open, standing.opened], [[1, 3, 4], [4]]);
+  assert.deepEqual([standing.open, standing.opened], [[1, 3, 4], { 4: 2 }]);
 });
 
 const BASE: Base = {
@@ -238,7 +238,7 @@ const BASE: Base = {
   hash: "",
   columns: {},
 };
-const names = new Standing({ seats: [], open: [], opened: [] }, BASE);
+const names = new Standing({ seats: [], open: [], opened: {} }, BASE);
 
 test("operations in words", () => {
   // Catches: a sentence without old or new values, a member that isn't named, a name that turns the words around it.
@@ -275,6 +275,40 @@ test("operations in words", () => {
   assert.equal(details, `AAA Alland 50 → 55; ${bbb} 30 → 33; CCC 20 → 22; DDD Delland 45 → 50`);
 });
 
+test("members get a share of the total, and the others pay or keep their votes", () => {
+  // Catches: a total that changes though the others pay, points taken for per cent, a vote that is lost by rounding,
+  // and a share that is given to a part of the members.
+  const share = (codes: string[], percent: string, others: "keep" | "pay"): Operation =>
+    ({ kind: "share", codes, percent, others });
+  const two = ["AAA", "BBB"];
+  const paid = ["votes,AAA,56", "votes,BBB,34", "votes,CCC,17", "votes,DDD,39", "votes,EEE,4"];
+  assert.deepEqual(records(board(), share(two, "60", "pay")), paid);
+  assert.deepEqual(records(board(), share(two, "60", "keep")), ["votes,AAA,66", "votes,BBB,39"]);
+  const more = ["votes,AAA,65", "votes,BBB,26", "votes,CCC,17", "votes,DDD,38", "votes,EEE,4"];
+  assert.deepEqual(records(board(), share(["AAA"], "+10", "pay")), more);
+  assert.deepEqual(records(board(), share(["AAA"], "-33.333333333", "keep")), ["votes,AAA,0"]);
+  const register = board();
+  register.submit([{ kind: "suspend", code: "AAA" }, { kind: "votes", code: "DDD", votes: 0 }]);
+  const total = (it: Register) => Object.values(it.members).reduce((sum, member) => sum + member.votes, 0);
+  const suspended = "AAA is suspended, so it has no share of the total voting power";
+  assert.equal(whyNot(register, share(two, "60", "pay")), suspended);
+  assert.equal(whyNot(register, share(["DDD"], "60", "pay")), "these members have no votes, so no proportions to keep");
+  assert.equal(whyNot(register, share(["BBB"], "100", "pay")), "no number of votes is 100 per cent of the total");
+  assert.equal(whyNot(register, share(["BBB"], "-60", "keep")), "no number of votes is -60 points more of the total");
+  assert.equal(whyNot(register, share(["XXX"], "1", "keep")), "no member has the code XXX");
+  records(register, share(["BBB", "CCC"], "7.7", "pay"));
+  assert.equal(total(register), 105);
+});
+
+test("members move to an open chair or to none", () => {
+  // Catches: a move of several that is refused since one of them is there already, or that is half done.
+  const join = (codes: string[], to: number | null): Operation => ({ kind: "join", codes, to });
+  assert.deepEqual(records(board(), join(["AAA", "DDD"], 2)), ["move,AAA,2"]);
+  assert.deepEqual(records(board(), join(["AAA", "DDD", "EEE"], null)), ["move,AAA,none", "move,DDD,none"]);
+  assert.equal(whyNot(board(), join(["DDD"], 2)), "these members are in chair 2 already");
+  assert.equal(whyNot(board(), join(["AAA", "DDD"], 9)), "2 move AAA");
+});
+
 /** The data of a study with a change. */
 function saved(what: unknown): string {
   const study = withAdded(studyOf("It", BASE), [what as What]);
@@ -291,6 +325,9 @@ test("operations in a saved study", () => {
     { kind: "split", codes: ["AAA"], to: 9 },
     { kind: "scale", of: 1, percent: "+12.5" },
     { kind: "scale", of: ["AAA", "BBB"], percent: "-3" },
+    { kind: "share", codes: ["AAA", "BBB"], percent: "+6", others: "pay" },
+    { kind: "share", codes: ["AAA"], percent: "20.5", others: "keep" },
+    { kind: "join", codes: ["AAA", "BBB"], to: null },
   ];
   for (const it of whole) assert.deepEqual(readData(saved(it))?.study.changes, [change(it)]);
   // As earlier versions saved it.

@@ -1,7 +1,7 @@
 /** Tests of tables for LaTeX. */
 import assert from "node:assert/strict";
 import { test } from "node:test";
-import { texTable, texText } from "../src/exports/tex";
+import { bibText, texTable, texText } from "../src/exports/tex";
 
 test("marks that LaTeX takes for something else", () => {
   // Catches: a mark that isn't escaped, or one that is escaped twice.
@@ -15,6 +15,16 @@ test("marks that LaTeX takes for something else", () => {
     "Ünter 日本": "Ünter 日本",
   };
   for (const [text, wanted] of Object.entries(texts)) assert.equal(texText(text), wanted);
+});
+
+test("names in BibTeX", () => {
+  // Catches: a name with a brace, after which BibTeX finds no end of the entry.
+  assert.equal(bibText("a } {b} 100 %"), "a \\textbraceright{} \\textbraceleft{}b\\textbraceright{} 100 \\%");
+  for (const name of ["}", "{{", "\\}", "a{b}}c", '"@x{'] ) {
+    const marks = [...bibText(name)].filter((it) => "{}".includes(it));
+    const depths = marks.map((_, at) => marks.slice(0, at + 1).reduce((sum, it) => sum + (it === "{" ? 1 : -1), 0));
+    assert.ok(depths.every((it) => it >= 0) && (depths[depths.length - 1] ?? 0) === 0, name);
+  }
 });
 
 test("a table", () => {

@@ -21,18 +21,6 @@ static const char usage[] =
     "\n"
     "This program was compiled from board.c, and has no serve, which needs threads.\n";
 
-/* A command: its run, and the length of its text. */
-struct command {
-    const char *name;
-    uint8_t (*run)(const uint8_t *, size_t, uint32_t, uint32_t, uint8_t *, size_t, uint64_t *, uint32_t *);
-    uint8_t (*length)(const uint8_t *, size_t, uint32_t, uint32_t, uint64_t *, uint32_t *);
-};
-
-static const struct command commands[] = {
-    {"replay", board_replay, board_replay_length},
-    {"trace", board_trace, board_trace_length},
-};
-
 /* An option: its number is from 1 to `most`, and 0 until it is given. */
 struct option {
     const char *name;
@@ -91,29 +79,248 @@ struct input {
     uint32_t readers, journal;
 };
 
-/* Runs a command with room for a text of some bytes, and writes the text: the fault that ended the run. If there is no
+/* Writes the line of a fault. A trap has none, and nor has a fault of writing. */
+static void say(uint32_t record, uint8_t fault) {
+    if (fault != BOARD_TRAPPED && fault != BOARD_WRITE_FAULT)
+        printf("fault,%lu,%s\n", (unsigned long)record, board_refusal_name(fault));
+}
+
+/* Replay: the input is read a piece at a time, and each record is carried out and answered before the next, so that the
+ * memory for it doesn't grow with the text. */
+
+/* What a piece after the first begins with, in the place of the last bytes that were read. */
+static const char opening[] = "member,votes\nscript\n";
+enum { OPENING_BYTES = sizeof opening - 1, OPENING_RECORDS = 2 };
+
+/* The bytes and the records of a piece, which a test makes small. */
+#ifndef PIECE_BYTES
+#define PIECE_BYTES 32768
+#define PIECE_ITEMS 4096
+#endif
+
+/* A piece of an input: its records, and the fault after them, if one ends the run there. */
+struct piece {
+    size_t at;      /* where it begins in the input */
+    uint32_t above; /* what is added to the number of a record in it, for that in the input */
+    size_t members, items;
+    uint8_t fault;
+    uint32_t record;
+    int is_last;
+};
+
+static struct board_entry members[BOARD_MEMBERS];
+static struct board_item items[PIECE_ITEMS];
+
+/* Reads the first bytes of a piece, or all that are left. If more are left, the last record may be cut: then it is a
+ * fault, or ends where the bytes do, and isn't taken. */
+static void read_bytes(struct piece *piece, const struct input *in, size_t size) {
+    size_t found = 0;
+    piece->record = 0;
+    piece->fault = board_script(in->bytes + piece->at, size, in->readers, members, BOARD_MEMBERS, &piece->members,
+                                items, PIECE_ITEMS, &found, &piece->record);
+    piece->items = found < PIECE_ITEMS ? found : PIECE_ITEMS;
+    piece->is_last = piece->fault == BOARD_OUT_OF_MEMORY || piece->fault == BOARD_TRAPPED ||
+                     (size == in->len - piece->at && found <= PIECE_ITEMS);
+    if (piece->is_last || found > PIECE_ITEMS) return;
+    if (found > 0 && piece->fault == BOARD_DONE && items[found - 1].to == size) piece->items--;
+}
+
+/* Reads a piece: as many bytes as it takes to find a record, which the first one does after its members. */
+static void read_piece(struct piece *piece, const struct input *in) {
+    size_t rest = in->len - piece->at;
+    for (size_t size = PIECE_BYTES;; size *= 2) {
+        read_bytes(piece, in, size < rest ? size : rest);
+        if (piece->is_last) return;
+        if (piece->items > 0) break;
+    }
+    piece->fault = BOARD_DONE;
+}
+
+/* Goes on to the piece after the records of this one. */
+static void go_on(struct piece *piece, const struct input *in) {
+    const struct board_item *last = &items[piece->items - 1];
+    piece->above += last->number - OPENING_RECORDS;
+    piece->at += last->to - OPENING_BYTES;
+    memcpy(in->bytes + piece->at, opening, OPENING_BYTES);
+}
+
+/* The lines of a reading, from after its reader on: at most 128 bytes each. It has none if its length is 0. */
+struct reading {
+    size_t len;
+    char text[128 * (1 + BOARD_CHAIRS)];
+};
+
+/* A register, and the lines of readings of what is published, by each majority. */
+struct desk {
+    struct board_register handle;
+    uint32_t published;
+    struct reading readings[4];
+};
+
+static struct board_room room;
+static struct desk desk;
+
+static char *put(char *to, const char *word) {
+    size_t len = strlen(word);
+    memcpy(to, word, len);
+    return to + len;
+}
+
+static char *put_number(char *to, const char *before, uint64_t number) {
+    char digits[21], *first = digits + sizeof digits - 1;
+    *first = 0;
+    do *--first = (char)('0' + (int)(number % 10));
+    while (number /= 10);
+    return put(put(to, before), first);
+}
+
+/* A fraction, or '-' if it is over 0. */
+static char *put_fraction(char *to, uint64_t swings, uint64_t over) {
+    return over ? put_number(put_number(to, ",", swings), "/", over) : put(to, ",-");
+}
+
+/* The line of a chair, whose board has `all` swings. */
+static char *put_chair(char *to, const struct board_chair *row, const struct board_counts *counts, uint64_t all) {
+    to = put_number(put(to, "chair"), ",", row->chair);
+    to = put_number(put_number(to, ",", row->weight), ",", row->swings);
+    to = put_fraction(to, row->swings, counts->coalitions / 2);
+    to = put_fraction(to, row->swings, all);
+    to = put_fraction(to, row->swings, counts->omega);
+    to = put_fraction(to, row->swings, counts->coalitions - counts->omega);
+    return put(to, "\n");
+}
+
+/* The line of a reading, from after its reader on. */
+static char *put_head(char *to, uint32_t majority, const struct board_counts *counts) {
+    static const char *const majorities[] = {",half", ",70", ",85", ",quorum"};
+    const uint64_t numbers[] = {counts->chairs, counts->quota, counts->cast,
+                                counts->total,  counts->omega, counts->coalitions};
+    to = put(put_number(to, ",", desk.published), majorities[majority]);
+    for (size_t at = 0; at < sizeof numbers / sizeof *numbers; at++) to = put_number(to, ",", numbers[at]);
+    return put(to, "\n");
+}
+
+static uint64_t all_swings(const struct board_counts *counts) {
+    uint64_t all = 0;
+    for (size_t at = 0; at < counts->chairs; at++) all += counts->rows[at].swings;
+    return all;
+}
+
+static char *put_reading(char *to, uint32_t majority, const struct board_counts *counts) {
+    const uint64_t all = all_swings(counts);
+    to = put_head(to, majority, counts);
+    for (size_t at = 0; at < counts->chairs; at++) to = put_chair(to, &counts->rows[at], counts, all);
+    return to;
+}
+
+/* Answers a reading. Each of what is published is counted once. */
+static uint8_t answer_read(const struct board_item *item) {
+    struct reading *reading = &desk.readings[item->majority];
+    if (!reading->len) {
+        struct board_counts counts;
+        uint8_t fault = board_register_read(&desk.handle, item->majority, &room, &counts);
+        if (fault) return fault;
+        reading->len = (size_t)(put_reading(reading->text, item->majority, &counts) - reading->text);
+    }
+    printf("reading,%lu", (unsigned long)item->reader);
+    fwrite(reading->text, 1, reading->len, stdout);
+    return BOARD_DONE;
+}
+
+static uint8_t answer_publish(void) {
+    uint32_t before = desk.published;
+    uint8_t fault = board_register_publish(&desk.handle, &desk.published);
+    if (fault) return fault;
+    for (size_t at = 0; at < 4 && desk.published != before; at++) desk.readings[at].len = 0;
+    printf("published,%lu\n", (unsigned long)desk.published);
+    return BOARD_DONE;
+}
+
+/* Answers a command. Its refusal is no fault. */
+static uint8_t answer_command(const struct board_command *command) {
+    uint32_t accepted = 0;
+    uint8_t refusal = board_register_apply(&desk.handle, command, &accepted);
+    if (refusal == BOARD_OUT_OF_MEMORY || refusal == BOARD_TRAPPED) return refusal;
+    if (refusal) printf("refused,%d,%s\n", refusal, board_refusal_name(refusal));
+    else printf("accepted,%lu\n", (unsigned long)accepted);
+    return BOARD_DONE;
+}
+
+/* Carries out a record, and writes its lines. Returns a fault that ends the run. */
+static uint8_t answer(const struct board_item *item) {
+    uint8_t fault = item->command.kind == BOARD_READ      ? answer_read(item)
+                    : item->command.kind == BOARD_PUBLISH ? answer_publish()
+                                                          : answer_command(&item->command);
+    return ferror(stdout) ? (uint8_t)BOARD_WRITE_FAULT : fault;
+}
+
+/* Carries out the records of a piece. Returns a fault that ends the run, which is none of the input's. */
+static uint8_t answer_all(const struct piece *piece) {
+    uint8_t fault = BOARD_DONE;
+    for (size_t at = 0; at < piece->items && !fault; at++) fault = answer(&items[at]);
+    return fault;
+}
+
+/* Carries out the records of an input from its first piece on, and writes their lines. */
+static uint8_t follow(struct piece *piece, const struct input *in) {
+    uint8_t fault = board_register_start(members, piece->members, in->journal, &desk.handle);
+    while (!fault && !(fault = answer_all(piece)) && !piece->is_last) {
+        go_on(piece, in);
+        read_piece(piece, in);
+    }
+    if (!fault) return piece->fault;
+    piece->record = 0;
+    return fault;
+}
+
+/* Replays an input, and writes its lines. A fault before the script leaves it without records. */
+static uint8_t replay(const struct input *in) {
+    struct piece piece = {0, 0, 0, 0, BOARD_TOO_LONG, 0, 1};
+    if (in->len <= BOARD_INPUT_BYTES) read_piece(&piece, in);
+    uint8_t fault = piece.fault && !piece.items ? piece.fault : follow(&piece, in);
+    if (fault != BOARD_TRAPPED) board_register_free(&desk.handle);
+    if (fault) say(piece.record ? piece.above + piece.record : 0, fault);
+    return fault;
+}
+
+/* Traces an input with room for a text of some bytes, and writes the text: the fault that ended the run. If there is no
  * such room, or the text is longer, it writes nothing and returns BOARD_WRITE_FAULT. */
-static uint8_t run(const struct command *command, const struct input *in, uint64_t room) {
+static uint8_t trace_in(const struct input *in, uint64_t size) {
     uint64_t written = 0;
     uint32_t record = 0;
     uint8_t fault = BOARD_WRITE_FAULT;
-    uint8_t *text = room == (size_t)room ? (uint8_t *)malloc((size_t)room) : NULL;
+    uint8_t *text = size == (size_t)size ? (uint8_t *)malloc((size_t)size) : NULL;
     if (!text) return fault;
-    fault = command->run(in->bytes, in->len, in->readers, in->journal, text, (size_t)room, &written, &record);
+    fault = board_trace(in->bytes, in->len, in->readers, in->journal, text, (size_t)size, &written, &record);
     if (fault != BOARD_WRITE_FAULT) fwrite(text, 1, (size_t)written, stdout);
     free(text);
     return fault;
 }
 
-/* The same with room for the whole text: what most inputs need at most, or else the length of the text. */
-static uint8_t run_whole(const struct command *command, const struct input *in) {
-    uint64_t room = 64 * (uint64_t)in->len + 65536;
+/* Traces an input with room for the whole text: what most inputs need at most, or else the length of the text. Where
+ * there is no such room, memory ran out. */
+static uint8_t trace(const struct input *in) {
+    uint64_t size = 64 * (uint64_t)in->len + 65536;
     uint32_t record = 0;
-    uint8_t fault = run(command, in, room);
+    uint8_t fault = trace_in(in, size);
     if (fault != BOARD_WRITE_FAULT) return fault;
-    command->length(in->bytes, in->len, in->readers, in->journal, &room, &record);
-    return run(command, in, room);
+    board_trace_length(in->bytes, in->len, in->readers, in->journal, &size, &record);
+    fault = trace_in(in, size);
+    if (fault != BOARD_WRITE_FAULT) return fault;
+    say(0, BOARD_OUT_OF_MEMORY);
+    return BOARD_OUT_OF_MEMORY;
 }
+
+/* A command, which writes its lines and returns the fault that ended it. */
+struct command {
+    const char *name;
+    uint8_t (*run)(const struct input *);
+};
+
+static const struct command commands[] = {
+    {"replay", replay},
+    {"trace", trace},
+};
 
 /* Reads standard input, at most a byte more than an input may have. */
 static uint8_t read_input(struct input *in) {
@@ -123,21 +330,21 @@ static uint8_t read_input(struct input *in) {
     return ferror(stdin) ? READ_FAULT : 0;
 }
 
-/* Ends the program. A fault of the program itself, before or without a text, has its line written here. */
-static int end(uint8_t before, uint8_t fault) {
-    if (before) printf("fault,0,%s\n", board_refusal_name(before));
+/* Ends the program. */
+static int end(uint8_t fault) {
     if (fflush(stdout) || ferror(stdout)) fault = BOARD_WRITE_FAULT;
     if (fault) fprintf(stderr, "board: %s\n", board_refusal_name(fault));
     return fault ? IN_FAULT : WELL;
 }
 
-/* Replays or traces standard input. Where there is no room for the text, memory ran out. */
+/* Replays or traces standard input. */
 static int begin(const struct command *command, uint32_t readers, uint32_t journal) {
     struct input in = {NULL, 0, readers, journal};
-    uint8_t before = read_input(&in), fault = before ? before : run_whole(command, &in);
-    if (!before && fault == BOARD_WRITE_FAULT) before = fault = BOARD_OUT_OF_MEMORY;
+    uint8_t fault = read_input(&in);
+    if (fault) say(0, fault);
+    else fault = command->run(&in);
     free(in.bytes);
-    return end(before, fault);
+    return end(fault);
 }
 
 /* Prepares the streams: their bytes are not changed, and a reader that has gone is a fault of writing. */
@@ -158,7 +365,7 @@ static int is_help(const char *word) { return !strcmp(word, "--help") || !strcmp
 static int show(int version) {
     if (version) printf("board %s (compiled from board.c)\n", board_version());
     else fputs(usage, stdout);
-    return end(BOARD_DONE, BOARD_DONE);
+    return end(BOARD_DONE);
 }
 
 int main(int count, char **words) {

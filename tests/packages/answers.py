@@ -8,10 +8,11 @@ FOLDER/boards.txt has, for each board, `board,TOTAL,WEIGHT..`, then for each maj
 for each script, `READERS,JOURNAL,STATUS,INPUT,TEXT`: the limits, the status of the program, and the bytes of the input
 and of the output, each byte as two hexadecimal digits. FOLDER/register.csv is a script of random commands, with
 readings after each few of them, and FOLDER/register.txt has its lines: one for each record of the script, and below a
-reading those of its chairs."""
+reading those of its chairs. FOLDER/chair_names.txt is a copy of the table here."""
 from __future__ import annotations
 
 import random
+import shutil
 import subprocess
 import sys
 from collections.abc import Iterator
@@ -110,6 +111,7 @@ def commands(some: random.Random) -> str:
 def write(program: Path, folder: Path) -> None:
     """Writes the files."""
     print(f"answers to {BOARDS} boards, {SCRIPTS} scripts, {COMMANDS} commands, SEED={seed()}")
+    shutil.copy(Path(__file__).with_name("chair_names.txt"), folder)
     register = commands(random.Random(seed()))
     (folder / "register.csv").write_text(register)
     status, text = ran(program, Call("a register", register.encode()))

@@ -1,13 +1,15 @@
 """The program that board.c is with BOARD_MAIN, and a program over its register, against the proved program."""
 from __future__ import annotations
 
+import random
 from pathlib import Path
 
 import pytest
 from tests.cases.case_files import cases_of_c
-from tests.portable.compilers import GCC, SANITIZERS, SYSTEMS, Built, on
+from tests.portable.compilers import GCC, PORTABLE, SANITIZERS, SYSTEMS, Built, on
 from tests.shared.commands import TOP, Ended, Words, ended
-from tests.shared.inputs import at_limits, of_cases
+from tests.shared.inputs import Call, at_limits, cut_out, end_by_cr, mutated, of_cases, put_byte
+from tests.shared.sizes import drawn, seed
 
 REFUSED = 2
 COMMANDS = ["replay", "trace"]
@@ -25,6 +27,10 @@ WORDS = [
 ]  # fmt: skip
 # What the shell does with the standard streams of a command.
 STREAMS = ["</", "<&-", ">/dev/full", ">&-", "| head -c 1"]
+# A replay reads its input in pieces. In pieces this short each place is the end of one.
+SHORT_PIECES = ["-DBOARD_MAIN", "-DPIECE_BYTES=40", "-DPIECE_ITEMS=3"]
+INCLUDED = [f"-include{it}" for it in ("stdlib.h", "string.h", "board.h")]
+READINGS = 20_000
 
 
 def differs(found: Ended, wanted: Ended) -> bool:
@@ -34,10 +40,30 @@ def differs(found: Ended, wanted: Ended) -> bool:
     return found != wanted
 
 
-def redirected(words: Words, command: str, stream: str) -> Ended:
-    """A run on an input whose text is longer than a pipe holds. Its status is that of the command, not of `head`."""
-    text = next(it.text for it in at_limits() if it.name == "a long text")
-    return ended(["bash", "-c", f'"$@" {stream}; exit "${{PIPESTATUS[0]}}"', "bash", *words, command], text)
+def at_limit(name: str) -> bytes:
+    """An input at a limit."""
+    return next(it.text for it in at_limits() if it.name == name)
+
+
+def long_scripts() -> list[Call]:
+    """Scripts of many pieces: the records of a long text and of the cases, with damage at random places."""
+    some, found = random.Random(seed()), list[Call]()
+    begun, records = at_limit("a long text").split(b"script\n")
+    records += b"".join(it.text.partition(b"script\n")[2] for it in of_cases() if it.name.startswith("commands"))
+    lines = records.splitlines(keepends=True)
+    for number in range(drawn(6, 40)):
+        script = b"".join(some.choices(lines, k=20_000))
+        for change in some.choices([put_byte, end_by_cr, cut_out], k=number % 3):
+            script = change(some, script)
+        text = begun + b"script\n" + script
+        found.append(Call(f"long script {number}", text, some.randint(1, 4), some.choice([900, 1_000_000])))
+    return found
+
+
+def redirected(words: Words, command: str, stream: str, name: str) -> Ended:
+    """A run on an input at a limit. Its status is that of the command, not of `head`."""
+    shell = f'"$@" {stream}; exit "${{PIPESTATUS[0]}}"'
+    return ended(["bash", "-c", shell, "bash", *words, command], at_limit(name))
 
 
 @on(SYSTEMS)
@@ -83,10 +109,42 @@ def test_long_inputs(built: Built, program: Path, command: str) -> None:
 @on([GCC])
 def test_little_memory(built: Built, program: Path) -> None:
     # Catches: a run that ends since there is no room for a longer text than its own.
-    longest = next(it.text for it in at_limits() if it.name == "the longest input")
+    longest = at_limit("the longest input")
     little = ["bash", "-c", 'ulimit -v 100000; exec "$@"', "bash"]
     found, wanted = (ended([*little, *it, "replay"], longest) for it in (built.program(), [str(program)]))
     assert found == wanted
+
+
+@on([GCC])
+def test_readings_in_little_memory(built: Built, program: Path) -> None:
+    # Catches: memory that grows with the text, which has more than 16 MB here.
+    readings = at_limit("a long text") + b"read,1,70\n" * READINGS
+    wanted = ended([str(program), "replay"], readings)
+    assert len(wanted.output) > 16_000_000 and wanted.status == 0
+    assert ended(["bash", "-c", 'ulimit -v 16000; exec "$@"', "bash", *built.program(), "replay"], readings) == wanted
+
+
+def check_replay(words: Words, program: Path, call: Call) -> None:
+    """A replay is the program's."""
+    limits = ["--readers", str(call.readers), "--journal", str(call.journal)]
+    found, wanted = (ended([*it, "replay", *limits], call.text) for it in (words, [str(program)]))
+    assert found == wanted, call.name
+
+
+@on([GCC, SANITIZERS[1]])
+def test_short_pieces(built: Built, program: Path) -> None:
+    # Catches: a record that is cut, left out, taken twice or misnumbered where a piece of the input ends.
+    source = PORTABLE / "src" / "main.c"
+    words = built.linked([built.object(*SHORT_PIECES, *INCLUDED, source=source), built.object()])
+    for call in built.some([*of_cases(), *mutated(seed(), drawn(200, 2_000))]):
+        check_replay(words, program, call)
+
+
+@on([GCC])
+def test_pieces(built: Built, program: Path) -> None:
+    # Catches: the same in pieces of the length that the program reads.
+    for call in long_scripts():
+        check_replay(built.program(), program, call)
 
 
 @on(SYSTEMS)
@@ -94,4 +152,7 @@ def test_little_memory(built: Built, program: Path) -> None:
 @pytest.mark.parametrize("command", COMMANDS)
 def test_streams(built: Built, program: Path, command: str, stream: str) -> None:
     # Catches: a fault of a device that isn't reported, and a program that a closed pipe kills.
-    assert redirected(built.program(), command, stream) == redirected([str(program)], command, stream)
+    # Also of a fault alone, which a reader that has gone may miss.
+    for name in ["a long text", *["no bytes"] * ("|" not in stream)]:
+        found, wanted = (redirected(it, command, stream, name) for it in (built.program(), [str(program)]))
+        assert found == wanted, name

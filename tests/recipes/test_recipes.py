@@ -1,4 +1,4 @@
-"""The recipes of docs/USING.md and docs/VALIDATION.md, compared with the output below them; and the records of
+"""The recipes of docs/EMBEDDING.md, USING.md and VALIDATION.md, compared with the output below them; and the records of
 docs/FORMATS.md, "Why was my record refused?", with what it says; and README.md's commands for a clone.
 
 The recipes of a document run one after another in a copy of what they use, with the program as ./board and a python3
@@ -22,6 +22,15 @@ SECTION = re.compile(r"^### ([^\n]*)\n(.*?)(?=^##|\Z)", re.MULTILINE | re.DOTALL
 WORDS = {"sh": ["bash", "-eu", "-o", "pipefail", "-c"], "r": ["Rscript", "-e"]}
 USED = ["bindings/python/commands", "bindings/python/src", "board.html", "docs", "examples", "portable", "tests/cases"]
 SECONDS = 300
+# The C file takes some ten seconds to compile, so this compiler takes the library that the commands have made of it.
+COMPILER = """#!/bin/sh -eu
+for word; do
+  shift
+  [ "$word" != portable/board.c ] || word=$(python3 bindings/python/commands/place.py)
+  set -- "$@" "$word"
+done
+exec {compiler} "$@"
+"""
 # The input before a record of each table of docs/FORMATS.md, and after it.
 AROUND = {
     "The first record": ("", "\nAAA,10\nscript\nopen,1\n"),
@@ -46,7 +55,7 @@ class Recipe:
 
 def recipes() -> list[Recipe]:
     found = []
-    for name in ("USING.md", "VALIDATION.md"):
+    for name in ("EMBEDDING.md", "USING.md", "VALIDATION.md"):
         text = (TOP / "docs" / name).read_text()
         for block in BLOCK.finditer(text):
             line = text.count("\n", 0, block.start()) + 1
@@ -100,6 +109,8 @@ def room(program: Path, tmp_path_factory: pytest.TempPathFactory) -> Room:
     (folder / "board").symlink_to(program)
     (folder / "bin").mkdir()
     (folder / "bin" / "python3").symlink_to("/usr/bin/python3")
+    (folder / "bin" / "cc").write_text(COMPILER.format(compiler=shutil.which("cc")))
+    (folder / "bin" / "cc").chmod(0o755)
     more = {"PATH": f"{folder / 'bin'}:{os.environ['PATH']}", "MPLCONFIGDIR": str(folder / "bin")}
     return Room(folder, user_environment() | more)
 

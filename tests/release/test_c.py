@@ -18,6 +18,8 @@ SOURCES = Path(__file__).parent
 LIBRARY = "lib/libboard.a"
 # Where the library is: in the unpacked release, and in an installation.
 PLACES = ["room", "installed"]
+# What the proved object asks of the C library, and of the kit's calls of malloc and free.
+CALLED = {"memcpy", "memmove", "memset", "rattle_alloc", "rattle_dealloc", "rattle_realloc"}
 # What the program answers, which make writes.
 ANSWERS = Path(os.environ["BOARD_ANSWERS"])
 
@@ -57,10 +59,10 @@ def test_answers(room: Path, library: str, what: str) -> None:
 
 
 def test_needs(room: Path) -> None:
-    # Catches: a proved object that asks the C library for more than to copy and to fill memory: it has no heap.
+    # Catches: a proved object that asks the C library for more than to copy and to fill memory, and for memory.
     part = ran(["nm", "-u", LIBRARY], room).partition("board_c.o:")[2].strip().partition("\n\n")[0]
     needs = {line.split()[-1] for line in part.splitlines()}
-    assert needs == {"memcpy", "memset"}, f"it asks for {needs}"
+    assert needs == CALLED, f"it asks for {needs}"
 
 
 def version_of(room: Path) -> str:

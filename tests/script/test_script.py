@@ -1,4 +1,4 @@
-"""The compiled static library board_script: what it reads of inputs, and the bytes of each item.
+"""The call board_script of the compiled library: what it reads of inputs, and the bytes of each item.
 
 read.c calls it, also with less room and with memory refused. The result is compared with the fault that the program
 prints, and all that is read with a reading over the rules of tests/independent."""

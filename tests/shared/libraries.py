@@ -1,4 +1,4 @@
-"""Programs in C over the static libraries, for this machine and for others."""
+"""Programs in C over the static library, for this machine and for others."""
 from __future__ import annotations
 
 import os
@@ -6,7 +6,6 @@ from pathlib import Path
 
 from tests.shared.commands import TOP, Words, printed
 
-CRATES = ["board_c", "board_register", "board_script", "board_replay"]
 HEADER = TOP / "crates" / "board_c"
 STRICT = ["-std=c11", "-Wall", "-Wextra", "-Werror", "-pedantic", "-pthread", f"-I{HEADER}"]
 # For programs that refuse memory.
@@ -23,10 +22,10 @@ NAMES = ['-DBOARD_VERSION="of tests"', str(HEADER / "names.c")]
 
 
 def native() -> Words:
-    """The libraries for this machine, or, where the program under test is the one of board.c, this file."""
+    """The library for this machine, or, where the program under test is the one of board.c, this file."""
     if Path(os.environ["BOARD"]).resolve() == C_FILE.with_name("out") / "board":
         return [str(C_FILE)]
-    return [*(f"{TOP}/out/lib{it}.a" for it in CRATES), f"{kit()}/c/liblibc_c.a"]
+    return [f"{TOP}/out/libboard_c.a", f"{kit()}/c/liblibc_c.a"]
 
 
 def over(libraries: Words, source: Path, made: Path, *flags: str, compiler: str = "cc") -> str:

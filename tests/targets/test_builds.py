@@ -9,13 +9,12 @@ from pathlib import Path
 import pytest
 
 from tests.shared.commands import TOP, printed
-from tests.shared.libraries import CRATES
 from tests.targets.modules import MADE, MODULE, WIDE, text_of
 from tests.targets.texts import beyond_lowering, deepest_stack
 
 HERE = Path(__file__).parent
 BUILD = "portable/wasm"
-SOURCES = [f"{BUILD}/build", f"{BUILD}/heap.c", "tools/retarget", *(f"out/{it}.bc" for it in CRATES)]
+SOURCES = [f"{BUILD}/build", f"{BUILD}/heap.c", "tools/retarget", "out/board_c.bc"]
 IN_PAGE = re.compile(r'<script type="text/plain" id="module">(.*?)</script>')
 STRICT = ["-std=c11", "-Wall", "-Wextra", "-Werror"]
 HEAP_CALLS = 10_000

@@ -10,7 +10,7 @@ import pytest
 from tests.shared.commands import TOP, ran_in
 
 CRATES = {line.split()[0].rstrip(":") for line in (TOP / "crates.txt").read_text().splitlines()}
-MODULES = ["board_c", "board_register", "board_replay", "board_script", "board", "memory_tests"]
+MODULES = ["board_c", "board", "memory_tests"]
 
 
 class Copy:
@@ -54,12 +54,8 @@ def test_documents_and_edits_prove_nothing(copy: Copy) -> None:
 def test_a_source_is_proved_with_what_stands_on_it(copy: Copy) -> None:
     # Catches: a program or a module that stays though its own source, or that of a crate below it, has changed.
     of_board = copy.proved("crates/board/src/main.rt")[0][0]
-    assert copy.proved("crates/board_runs/src/lib.rt") == (
-        [of_board, len(CRATES)],
-        {"board", "board_replay", "board_script", "memory_tests"},
-    )
-    of_calls = {"board_c", "board_register", "board_script"}
-    assert copy.proved("crates/c_values/specs/Counts.antt") == ([len(CRATES)], of_calls)
+    assert copy.proved("crates/board_runs/src/lib.rt") == ([of_board, len(CRATES)], {"board", "board_c"})
+    assert copy.proved("crates/c_values/specs/Counts.antt") == ([len(CRATES)], {"board_c"})
     assert copy.proved("crates/council_core/proofs") == ([of_board, len(CRATES)], set(MODULES))
 
 

@@ -11,7 +11,8 @@ import pytest
 from tests.shared.commands import TOP
 
 ROWS = [it.split(":") for it in (TOP / "tools" / "packages.txt").read_text().splitlines() if not it.startswith("#")]
-PACKAGES = sorted({word.rpartition("=")[2] for _, words in ROWS for word in words.split()})
+DEEP = {word for parts, words in ROWS if parts.startswith("deep ") for word in words.split()}
+PACKAGES = sorted({word.rpartition("=")[2] for _, words in ROWS for word in words.split() if word not in DEEP})
 # The system's programs that the scripts call. A stub may stand for one.
 SYSTEM = "awk bash cat cp dirname grep head mkdir sort tail tee tr".split()
 
@@ -101,8 +102,8 @@ def test_a_hidden_package_fails_in_the_gate_alone(stubbed: Stubbed) -> None:
 def test_each_part_has_its_packages_listed() -> None:
     # Catches: a part of which nobody says what it needs, so that nothing fails where that is missing.
     text = (TOP / "Makefile").read_text()
-    groups = dict(re.findall(r"^(FIRST|UNPROVED|PROVED|CHECKS) +:= (.*)$", text, re.MULTILINE))
-    parts = [it for name in ("FIRST", "UNPROVED", "PROVED") for it in groups[name].split()]
+    groups = dict(re.findall(r"^(FIRST|UNPROVED|PROVED|DEEPER|CHECKS) +:= (.*)$", text, re.MULTILINE))
+    parts = [it for name in ("FIRST", "UNPROVED", "PROVED", "DEEPER") for it in groups[name].split()]
     listed = {part for parts_of_row, _ in ROWS for part in parts_of_row.split()}
     assert len(parts) == len({*parts}) > 20
     assert {*parts} - listed == {"prove"}
@@ -146,6 +147,13 @@ def test_a_package_is_missed_by_the_parts_that_need_it(stubbed: Stubbed) -> None
     stubbed.hide("valgrind")
     assert stubbed.ran("install", "--check", "compilers", "regis") == (0, "")
     assert stubbed.ran("install", "--check", "compilers", "register")[0] == 1
+
+
+@pytest.mark.parametrize("part", ["deep", "second"])
+def test_the_deep_gate_alone_misses_coq(stubbed: Stubbed, part: str) -> None:
+    # Catches: a landing that installs, or fails without, a large package that only the deep gate needs.
+    assert stubbed.ran("install", "--check") == (0, "")
+    assert stubbed.ran("install", "--check", part) == (1, "tools/install: Debian's coq isn't here\n")
 
 
 def test_a_command_stands_for_its_package(stubbed: Stubbed) -> None:

@@ -55,7 +55,9 @@ def clone(tmp_path_factory: pytest.TempPathFactory) -> Path:
     return copied(tmp_path_factory.mktemp("clone"), "")
 
 
-@pytest.mark.parametrize("goals", ["help", "--dry-run docs lint clean portable cases page-units install", "lint"])
+@pytest.mark.parametrize(
+    "goals", ["help", "--dry-run docs lint clean portable cases page-units install python r rust javascript", "lint"]
+)
 def test_make(clone: Path, goals: str) -> None:
     # Catches: a goal without a proof that needs rt.
     done = ran(clone, "make", *goals.split())

@@ -1,6 +1,6 @@
 /** Commands: as objects, as records, and as the module's structs. */
 import { COMMAND, WORD, codeIn, putCode, putWord, wordIn } from "./memory.js";
-import { ALLOWED, KINDS, type Kind, type Part } from "./names.js";
+import { ALLOWED, CHAIRS, KINDS, MEMBER_VOTES, type Kind, type Part } from "./names.js";
 import { BAD_CHAIR, BAD_MEMBER, BAD_RECORD, Refused, VOTES_TOO_LARGE } from "./refused.js";
 import { inRecord, refusedCommand, type Place } from "./refused.js";
 import { shown, text, whole, wrongType, type Whole } from "./values.js";
@@ -103,6 +103,30 @@ export function partsIn(view: DataView, at: number, kind: Kind): Pick<Command, P
 export function commandIn(view: DataView, at: number): Command {
   const kind = KIND_NAMES[view.getUint32(at, true)]!;
   return Object.assign(Object.create(Command.prototype) as Command, { kind, ...partsIn(view, at, kind) });
+}
+
+/** The value of a field of a record, or its text if it is none. */
+function valueOf(part: Part, field: string): string | bigint | null {
+  if (part === "chair" && field === "none") return null;
+  return part !== "code" && /^[0-9]{1,30}$/.test(field) ? BigInt(field) : field;
+}
+
+/** What is wrong with a field of a record, in the words of the call of its kind. Empty where it is no field. */
+export function wrongField(record: string): string {
+  const [word, ...fields] = record.split(",");
+  const kind = KIND_NAMES.find((it) => it === word);
+  const parts: readonly Part[] = kind ? KINDS[kind] : [];
+  if (parts.length === 0 || fields.length !== parts.length) return "";
+  const values = parts.map((part, at) => [part, valueOf(part, fields[at]!)]);
+  const command = { kind, ...Object.fromEntries(values) } as CommandParts;
+  try {
+    const { code, chair, votes } = checked(command);
+    const number = (chair ?? 0) > CHAIRS ? BAD_CHAIR : (votes ?? 0) > MEMBER_VOTES ? VOTES_TOO_LARGE : 0;
+    const isBad = code !== null && !/^[A-Z]{3}$/.test(code);
+    return number || isBad ? `: ${refusal(isBad ? BAD_MEMBER : number, command).message}` : "";
+  } catch (why) {
+    return `: ${(why as Error).message}`;
+  }
 }
 
 /** The refusal of a command, in the words of the part that is refused. */

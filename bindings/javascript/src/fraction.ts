@@ -38,6 +38,17 @@ export class Fraction {
     return difference < 0 ? -1 : Number(difference > 0);
   }
 
+  /**
+   * The exact difference to another fraction: this one minus that one.
+   *
+   * @example
+   * `${new Fraction(1, 3).minus(new Fraction(1, 2))}`; // "-1/6"
+   */
+  minus(other: Fraction): Difference {
+    const [one, two] = [BigInt(this.denominator), BigInt(other.denominator)];
+    return new Difference(BigInt(this.numerator) * two - BigInt(other.numerator) * one, one * two);
+  }
+
   /** Whether both are the same number. */
   equals(other: Fraction): boolean {
     return this.compare(other) === 0;
@@ -57,6 +68,47 @@ export class Fraction {
   }
 
   /** Node's console shows "3/5". */
+  [Symbol.for("nodejs.util.inspect.custom")](): string {
+    return this.toString();
+  }
+}
+
+/**
+ * The exact difference of two fractions in lowest terms, such as a gain or, below 0, a loss. Its numbers may be above
+ * 2^53, so they are bigints. As a number it is its value, and as text and in JSON it is "-1/6", or "1" if it is whole.
+ */
+export class Difference {
+  readonly numerator: bigint;
+  readonly denominator: bigint;
+
+  /** @internal */
+  constructor(numerator: bigint, denominator: bigint) {
+    let [common, rest] = [numerator < 0n ? -numerator : numerator, denominator];
+    while (rest !== 0n) [common, rest] = [rest, common % rest];
+    this.numerator = numerator / common;
+    this.denominator = denominator / common;
+  }
+
+  /** Below 0 if this is less than the other difference, 0 if both are equal, above 0 if this is greater. Exact. */
+  compare(other: Difference): number {
+    const difference = this.numerator * other.denominator - other.numerator * this.denominator;
+    return difference < 0n ? -1 : Number(difference > 0n);
+  }
+
+  /** Its value as a number, to within the last place. */
+  valueOf(): number {
+    return Number(this.numerator) / Number(this.denominator);
+  }
+
+  toString(): string {
+    return this.denominator === 1n ? `${this.numerator}` : `${this.numerator}/${this.denominator}`;
+  }
+
+  toJSON(): string {
+    return this.toString();
+  }
+
+  /** Node's console shows "-1/6". */
   [Symbol.for("nodejs.util.inspect.custom")](): string {
     return this.toString();
   }

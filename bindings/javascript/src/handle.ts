@@ -92,17 +92,25 @@ export class Handle {
   }
 
   /** The structs of a list, one after another. */
-  *#each<Item>(length: string, name: string, read: (view: DataView, at: number) => Item): Generator<Item, void> {
+  #all<Item>(length: string, name: string, read: (view: DataView, at: number) => Item): Generator<Item, void> {
+    return this.#each(0, this.#instance.call(length, this.#handle), name, read);
+  }
+
+  *#each<Item>(
+    from: number,
+    to: number,
+    name: string,
+    read: (view: DataView, at: number) => Item,
+  ): Generator<Item, void> {
     const { struct } = this.#instance;
-    const many = this.#instance.call(length, this.#handle);
-    for (let at = 0; at < many; at++) {
+    for (let at = from; at < to; at++) {
       mustBeDone(this.#instance.call(name, this.#handle, BigInt(at), BigInt(struct)));
       yield read(this.#instance.view, struct);
     }
   }
 
   members(): Iterable<{ code: string; votes: number; chair: number | null; suspended: boolean }> {
-    return this.#each("board_register_members", "board_register_member_at", (view, at) => ({
+    return this.#all("board_register_members", "board_register_member_at", (view, at) => ({
       code: codeIn(view, at),
       votes: wordIn(view, at + 2 * WORD),
       chair: wordIn(view, at + WORD) || null,
@@ -112,11 +120,12 @@ export class Handle {
 
   entries(): Iterable<{ code: string; votes: number }> {
     const read = (view: DataView, at: number) => ({ code: codeIn(view, at), votes: wordIn(view, at + WORD) });
-    return this.#each("board_register_entries", "board_register_entry_at", read);
+    return this.#all("board_register_entries", "board_register_entry_at", read);
   }
 
-  commands(): Iterable<Command> {
-    return this.#each("board_register_accepted", "board_register_command_at", commandIn);
+  /** The accepted commands, or some of them. */
+  commands(from = 0, to = this.accepted): Iterable<Command> {
+    return this.#each(from, to, "board_register_command_at", commandIn);
   }
 
   /** The sheet: for each chair its weight plus 1, or 0 if it is closed; the total; the accepted commands. */

@@ -13,11 +13,12 @@ setPacked(() => {
 });
 
 export { Command, type CommandParts } from "./commands.js";
-export { Fraction } from "./fraction.js";
+export { Difference, Fraction } from "./fraction.js";
 export {
   indices,
   indicesOfAll,
   indicesOfMany,
+  indicesOfManyInWorkers,
   indicesOfMembers,
   type ChairIndices,
   type Indices,
@@ -26,7 +27,9 @@ export {
 export { load, loadSync, type Source } from "./load.js";
 export { MAJORITIES, MEANINGS, REFUSALS, VERSION, type Kind, type Majority } from "./names.js";
 export { Refused, type Fault, type Place } from "./refused.js";
-export { Register, type Commands, type Member, type RegisterOptions, type Votes } from "./register.js";
+export {
+  Register, type Commands, type Member, type RegisterOptions, type ScriptOptions, type Votes,
+} from "./register.js";
 export {
   Replay,
   replay,

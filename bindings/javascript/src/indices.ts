@@ -1,11 +1,12 @@
 /** The counts of a board with the power of its chairs, and the calls that count boards. */
 import { fraction, type Fraction } from "./fraction.js";
-import { shared } from "./load.js";
-import { COUNTS, MEMBER, WORD, putWord, wordIn, wordOf, type Shared } from "./memory.js";
+import { loaded, shared } from "./load.js";
+import { COUNTS, LARGEST, MEMBER, SHEET, WORD, putWord, wordIn, wordOf, type Shared } from "./memory.js";
 import { ALLOWED, CHAIRS, MAJORITIES, TOTAL_VOTES, type Majority } from "./names.js";
 import { BAD_RECORD, BAD_SHEET, Refused } from "./refused.js";
 import { chairNames, rowsOf, type MemberTable, type Row } from "./tables.js";
 import { isList, isWhole, items, majorityNumber, options, shown, whole, wrongType, type Whole } from "./values.js";
+import { inWorker, processors } from "./worker.js";
 
 /** An open chair and its voting power. */
 export interface ChairIndices {
@@ -55,7 +56,12 @@ export type Names = ReadonlyMap<number, string>;
 export type Weights = Iterable<Whole> | ReadonlyMap<string, Whole> | Readonly<Record<string, Whole>>;
 
 /** The counts that a call has written, by a majority. @internal */
-export function indicesIn({ view, counts }: Shared, majority: Majority, names?: Names, at = counts): Indices {
+export function indicesIn(
+  { view, counts }: Pick<Shared, "view" | "counts">,
+  majority: Majority,
+  names?: Names,
+  at = counts,
+): Indices {
   const wordAt = (place: number): number => wordIn(view, at + WORD * place);
   const [open, omega, coalitions] = [wordAt(4), wordAt(5), wordAt(6)];
   let all = 0;
@@ -180,28 +186,86 @@ export function indicesOfAll(weights: Weights, given: { total?: Whole } = {}): R
 }
 
 /**
- * The voting power on many boards, of each by several majorities. `totals` has a total for each board; undefined stands
- * for the sum of its weights. A message names the board, counted from 1.
+ * The voting power on many boards, of each by several majorities, or by all of them if none are given. `totals` has a
+ * total for each board; undefined stands for the sum of its weights. A message names the board, counted from 1.
  *
  * @example
  * indicesOfMany([[50, 49, 1], [5, 5]], ["half", "85"]).map((board) => board.half.omega); // [3, 1]
  */
-export function indicesOfMany<Chosen extends Majority>(
+export function indicesOfMany<Chosen extends Majority = Majority>(
   rows: Iterable<Weights>,
-  majorities: Iterable<Chosen>,
+  majorities: Iterable<Chosen> = MAJORITIES as Iterable<Chosen>,
   given: { totals?: Iterable<Whole | undefined> } = {},
 ): Record<Chosen, Indices>[] {
   const { totals } = options(given, "totals");
+  const { boards, chosen } = boardsOf(rows, majorities, totals);
+  const instance = shared();
+  return boards.map((board) => {
+    // One call by all four takes less time than four, and more than three.
+    const found = chosen.length < MAJORITIES.length ? undefined : countedByAll(instance, board);
+    return Object.fromEntries(chosen.map((it) => [it, found?.[it] ?? counted(instance, board, it)]));
+  }) as Record<Chosen, Indices>[];
+}
+
+/** Many boards and majorities, checked. */
+function boardsOf<Chosen extends Majority>(
+  rows: Iterable<Weights>,
+  majorities: Iterable<Chosen>,
+  totals: Iterable<Whole | undefined> | undefined,
+): { boards: Board[]; chosen: Chosen[] } {
   const chosen = items(majorities, "the majorities are");
   for (const it of chosen) if (!MAJORITIES[majorityNumber(it)]) throw noMajority(it);
-  const boards = items(rows, "the boards are");
-  const all = totals === undefined ? boards.map(() => undefined) : items(totals, "the totals are");
-  if (all.length !== boards.length) throw new TypeError(`${all.length} totals of ${boards.length} boards`);
-  const checked = boards.map((it, at) => boardOf(it, all[at], `board ${at + 1}: `));
-  const [instance, isOne] = [shared(), chosen.length === 1];
-  return checked.map((board) => {
-    const found = isOne ? undefined : countedByAll(instance, board);
-    return Object.fromEntries(chosen.map((it) => [it, found?.[it] ?? counted(instance, board, it)]));
+  const given = items(rows, "the boards are");
+  const all = totals === undefined ? given.map(() => undefined) : items(totals, "the totals are");
+  if (all.length !== given.length) throw new TypeError(`${all.length} totals of ${given.length} boards`);
+  return { boards: given.map((it, at) => boardOf(it, all[at], `board ${at + 1}: `)), chosen };
+}
+
+/** Boards as sheets, one after the other. The total of a board of too many chairs is one that is refused. */
+function sheetsOf(boards: readonly Board[]): ArrayBuffer {
+  const view = new DataView(new ArrayBuffer(SHEET * boards.length));
+  boards.forEach(({ weights, total }, board) => {
+    const [at, isOne] = [SHEET * board, weights.length <= CHAIRS];
+    if (isOne) weights.forEach((weight, chair) => putWord(view, at + WORD * chair, plusOne(weight)));
+    putWord(view, at + WORD * CHAIRS, isOne ? total : LARGEST);
+  });
+  return view.buffer as ArrayBuffer;
+}
+
+/**
+ * What `indicesOfMany` returns, counted by several workers at a time while this thread goes on: by default one for each
+ * processor. It takes and refuses the same.
+ *
+ * A browser must allow workers of a `blob:` URL. Where there are no workers it is an Error.
+ *
+ * @example
+ * const [board] = await indicesOfManyInWorkers([[50, 49, 1]], ["half"], { workers: 2 });
+ * board.half.omega; // 3
+ */
+export async function indicesOfManyInWorkers<Chosen extends Majority = Majority>(
+  rows: Iterable<Weights>,
+  majorities: Iterable<Chosen> = MAJORITIES as Iterable<Chosen>,
+  given: { totals?: Iterable<Whole | undefined>; workers?: number } = {},
+): Promise<Record<Chosen, Indices>[]> {
+  const { totals, workers = processors() } = options(given, "totals", "workers");
+  if (!Number.isSafeInteger(workers) || workers < 1) {
+    throw wrongType("the number of workers is", workers, "a whole number from 1");
+  }
+  const { boards, chosen } = boardsOf(rows, majorities, totals);
+  const numbers = chosen.map(majorityNumber);
+  const share = Math.ceil(boards.length / workers);
+  const starts = Array.from({ length: Math.min(workers, boards.length) }, (_, at) => share * at);
+  const parts = await Promise.all(starts.map(async (start) => {
+    const part = boards.slice(start, start + share);
+    const { counts, refused } = await inWorker({ module: loaded(), sheets: sheetsOf(part), numbers });
+    return { part, view: new DataView(counts), refused };
+  }));
+  return parts.flatMap(({ part, view, refused }) => {
+    if (refused !== undefined) throw noBoard(part[refused]!);
+    return part.map(({ names }, board) => {
+      const at = (kind: number): number => COUNTS * (board * chosen.length + kind);
+      return Object.fromEntries(chosen.map((it, kind) => [it, indicesIn({ view, counts: 0 }, it, names, at(kind))]));
+    });
   }) as Record<Chosen, Indices>[];
 }
 

@@ -75,6 +75,9 @@ function module(): WebAssembly.Module {
   return compiled!;
 }
 
+/** The module for a worker. @internal */
+export const loaded = (): WebAssembly.Module => module();
+
 /** The instance of counts and registers. @internal */
 export function shared(): Shared {
   if (!kept?.isSound) kept = new Shared(module());

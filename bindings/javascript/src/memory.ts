@@ -14,8 +14,8 @@ export const MEMBER = 24;
 export const ENTRY = 16;
 export const COMMAND = 24;
 export const ITEM = 48;
-const ROOM = 65536 * 2 * (WORD + 2);
-const SHEET = WORD * (CHAIRS + 2);
+export const ROOM = 65536 * 2 * (WORD + 2);
+export const SHEET = WORD * (CHAIRS + 2);
 const HANDLE = 16;
 /** The largest number in 64 bits. */
 export const LARGEST = 2n ** 64n - 1n;

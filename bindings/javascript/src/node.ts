@@ -8,7 +8,15 @@ interface Builtins {
     readSync(file: number, bytes: Uint8Array, options: { offset: number }): number;
     writeSync(file: number, bytes: Uint8Array, offset: number): number;
   };
+  "node:os": { availableParallelism(): number };
   "node:process": { readonly argv: readonly string[]; exitCode: number };
+  "node:worker_threads": {
+    Worker: new (code: string, options: { eval: true }) => {
+      once(event: string, call: (given: never) => void): void;
+      postMessage(given: unknown): void;
+      terminate(): void;
+    };
+  };
   "node:util": { parseArgs(given: object): { values: Values; positionals: string[] } };
 }
 

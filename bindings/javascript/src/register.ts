@@ -1,9 +1,10 @@
 /** The register: members, their votes, and the chairs that cast them. */
-import { Command, checked, recordOf, refusal, structOf, type CommandParts } from "./commands.js";
+import { ChairNames } from "./chairNames.js";
+import { Command, checked, recordOf, refusal, structOf, wrongField, type CommandParts } from "./commands.js";
 import { Handle } from "./handle.js";
 import type { Indices } from "./indices.js";
 import { shared } from "./load.js";
-import { MEMBERS, MEMBER_VOTES, PUBLISH, READ, ALLOWED, type Kind, type Majority } from "./names.js";
+import { CHAIRS, MEMBERS, MEMBER_VOTES, PUBLISH, READ, ALLOWED, type Kind, type Majority } from "./names.js";
 import * as refused from "./refused.js";
 import { Refused, inRecord, refusedCommand, sentenceOf, type Place } from "./refused.js";
 import { pieces, type Piece } from "./script.js";
@@ -36,6 +37,12 @@ export type Commands = string | CommandParts | readonly (string | CommandParts)[
 export interface RegisterOptions {
   /** The most commands that it accepts, from 1 to 1,000,000, which it is without this option. */
   readonly journal?: Whole;
+}
+
+/** Options of the register of a script. */
+export interface ScriptOptions extends RegisterOptions {
+  /** The names of chairs that are open at its end, by number, as `chairNames` gives them: a script has none. */
+  readonly names?: Readonly<Record<number, string>> | ReadonlyMap<number, string>;
 }
 
 /** Whether a value is a table: a list of rows that are no pairs, or an object with a list in it. */
@@ -90,6 +97,15 @@ function seating(rows: readonly Row[]): CommandParts[] {
   ];
 }
 
+const nameOf = (name: unknown): string | null => (name === null ? null : text(name, "the name is", ALLOWED.name));
+
+/** The pairs of an object or a Map of names by chairs. */
+function namesOf(names: unknown): (readonly [chair: number, name: string])[] {
+  if (typeof names !== "object" || names === null) throw wrongType("the names are", names, "texts by chairs");
+  const pairs: [unknown, unknown][] = names instanceof Map ? [...names] : Object.entries(names);
+  return pairs.map(([chair, name]) => [Number(chair), text(name, `the name of chair ${chair} is`, ALLOWED.name)]);
+}
+
 /** A record to be carried out. Its refusal has the number of the record, unless it is alone. */
 interface Order {
   readonly kind: number;
@@ -100,6 +116,8 @@ interface Order {
 const decoder = new TextDecoder();
 /** The bytes of a faulty record that a message shows. */
 const SHOWN = 60;
+/** A text of a single line has at most one record. */
+const SEVERAL_LINES = /[\r\n][^\r\n]/;
 
 /** The records of a piece of a text. */
 function* ordersOf(piece: Piece, bytes: Uint8Array, base: number): Generator<Order, void> {
@@ -120,7 +138,9 @@ function refusalOfFault({ numbers, fault, faulty }: Piece, bytes: Uint8Array, ba
   const place = record === 0 ? {} : { record: base + numbers + record };
   if (faulty === undefined) return new Refused(number, inRecord(sentenceOf(number), place), place);
   const [command = ""] = decoder.decode(bytes.subarray(faulty, faulty + SHOWN)).trim().split(/[\r\n]/);
-  return refusedCommand(number, command, place);
+  const { message } = refusedCommand(number, command, place);
+  const field = number === refused.BAD_RECORD ? wrongField(command) : "";
+  return new Refused(number, message + field, { command, ...place });
 }
 
 function orderOf(given: CommandParts, place: Place = {}): Order {
@@ -181,7 +201,7 @@ export class Register {
   /** `free`, at the end of a block that begins with `using`. */
   declare readonly [Symbol.dispose]: () => void;
   #handle: Handle;
-  readonly #names: ReadonlyMap<number, string>;
+  #names: ChairNames;
 
   /**
    * A register of these members: their votes by their codes, in which case no chair is open; or a table with the
@@ -201,8 +221,10 @@ export class Register {
     } else {
       const journal = journalOf(options(given, "journal").journal);
       const rows = rowsOfMembers(members);
-      this.#names = chairNames(rows, "register");
+      const names = chairNames(rows, "register");
       this.#handle = started(rows, journal);
+      this.#names = new ChairNames();
+      for (const [chair, name] of names) this.rename(chair, name);
     }
     Object.defineProperties(this, VIEWS);
   }
@@ -211,9 +233,9 @@ export class Register {
    * The register of a script, which is text or UTF-8 in bytes, also of more than 4 MiB: its commands and publications
    * are carried out, and its readings left out. `Refused` with the record's number for a refused command or a fault.
    */
-  static fromScript(script: string | Uint8Array, given: RegisterOptions = {}): Register {
-    const journal = journalOf(options(given, "journal").journal);
-    const bytes = inputOf(script);
+  static fromScript(script: string | Uint8Array, given: ScriptOptions = {}): Register {
+    const { journal: limit, names = {} } = options(given, "journal", "names");
+    const [journal, bytes, named] = [journalOf(limit), inputOf(script), namesOf(names)];
     let handle: Handle | undefined;
     try {
       for (const piece of pieces(bytes, true)) {
@@ -222,46 +244,60 @@ export class Register {
         handle ??= Handle.start(shared(), records.members, journal);
         carryOut(handle, ordersOf(piece, bytes, 0), "left out");
       }
+      const register = registerOf(handle!);
+      for (const [chair, name] of named) register.rename(chair, name);
+      return register;
     } catch (why) {
       handle?.free();
       throw why;
     }
-    return registerOf(handle!);
   }
 
+  /** Carries out records, all or none. More than one are carried out on a copy, which then takes the register's place:
+   * so no memory is needed where the register stays as it is. */
   #carryOut(list: Iterable<Order>): number {
-    const { accepted, published } = this.#handle;
+    const now = this.#handle;
+    if (Array.isArray(list) && list.length <= 1) {
+      carryOut(now, list, "refused");
+      return now.accepted;
+    }
+    const copy = now.copy(now.accepted);
     try {
-      carryOut(this.#handle, list, "refused");
+      carryOut(copy, list, "refused");
     } catch (why) {
-      this.#returnTo(accepted, published);
+      copy.free();
       throw why;
     }
-    return this.#handle.accepted;
-  }
-
-  /** Puts the register back: the commands that were published, published; and the rest of those accepted. */
-  #returnTo(accepted: number, published: number): void {
-    if (this.#handle.accepted === accepted && this.#handle.published === published) return;
-    const [now, whole] = [this.#handle, this.#handle.copy(accepted)];
-    this.#handle = whole;
-    if (whole.published !== published) {
-      this.#handle = now.copy(published);
-      if (published > 0) this.#handle.publish();
-      let at = 0;
-      for (const it of whole.commands()) if (at++ >= published) this.#handle.apply(structOf(it));
-      whole.free();
-    }
+    this.#handle = copy;
     now.free();
+    return copy.accepted;
   }
 
   #command(kind: Kind, code: string | null, chair: Whole | null | undefined, votes: Whole | null): number {
     return this.#carryOut([orderOf({ kind, code, chair, votes })]);
   }
 
-  /** Opens a closed chair. Each command returns the number of accepted commands. */
-  open(chair: Whole): number {
-    return this.#command("open", null, chair, null);
+  /** Opens a closed chair, which has this name until it is closed: a chair that is closed and opened again is a new
+   * chair, without a name. Each command returns the number of accepted commands. */
+  open(chair: Whole, name: string | null = null): number {
+    const given = nameOf(name);
+    const accepted = this.#command("open", null, chair, null);
+    if (given !== null) this.#names.set(accepted, given);
+    return accepted;
+  }
+
+  /**
+   * Gives an open chair another name, or with null none, from when it was opened until it is closed. It is no command:
+   * the journal, scripts and `undo` know nothing of it. `Refused` as BadChair (14) or ChairNotOpen (2).
+   */
+  rename(chair: Whole, name: string | null): void {
+    const number = Number(checked({ kind: "open", chair }).chair);
+    if (number > CHAIRS) throw new Refused(refused.BAD_CHAIR, `the chair is ${number}: ${ALLOWED.chair}`);
+    const [given, opening] = [nameOf(name), this.#names.opening(this.#handle, number)];
+    if (opening === undefined) {
+      throw new Refused(refused.CHAIR_NOT_OPEN, `no name for chair ${number}: ${sentenceOf(refused.CHAIR_NOT_OPEN)}`);
+    }
+    this.#names.set(opening, given);
   }
 
   /** Closes an open chair without members. */
@@ -308,7 +344,8 @@ export class Register {
    * register.submit({ kind: "move", code: "AAA", chair: null });
    */
   submit(commands: Commands): number {
-    return this.#carryOut(typeof commands === "string" ? orders(commands) : [...orders(commands)]);
+    const isOfLines = typeof commands === "string" && SEVERAL_LINES.test(commands);
+    return this.#carryOut(isOfLines ? orders(commands) : [...orders(commands)]);
   }
 
   #one(command: string | CommandParts): Order {
@@ -348,17 +385,17 @@ export class Register {
 
   /** The voting power as the register stands. */
   indices(majority: Majority): Indices {
-    return this.#handle.indices("counts", majority, this.#names);
+    return this.#handle.indices("counts", majority, this.#names.now(this.#handle));
   }
 
   /** The voting power as the register stands, by each majority. */
   indicesOfAll(): Record<Majority, Indices> {
-    return this.#handle.indicesOfAll(this.#names);
+    return this.#handle.indicesOfAll(this.#names.now(this.#handle));
   }
 
   /** The voting power after the published commands, which is what readers see: at first that of the opening. */
   read(majority: Majority): Indices {
-    return this.#handle.indices("read", majority, this.#names);
+    return this.#handle.indices("read", majority, this.#names.published(this.#handle));
   }
 
   /** The members by their codes, in the order of entry. */
@@ -376,9 +413,9 @@ export class Register {
     return chairs;
   }
 
-  /** The names of chairs, by their numbers, as the table gave them. */
+  /** The names of the open chairs that have one, by their numbers: from a table, `open`, `rename` or `fromScript`. */
   get chairNames(): Record<number, string> {
-    return Object.fromEntries(this.#names);
+    return Object.fromEntries(this.#names.now(this.#handle));
   }
 
   /** The votes of the members with which the register started, by code. */
@@ -391,7 +428,8 @@ export class Register {
     return [...this.#handle.commands()];
   }
 
-  /** The register as a script, which `fromScript` and `replay` take: its opening, its journal, and `publish`. */
+  /** The register as a script, which `fromScript` and `replay` take: its opening, its journal, and `publish`. It has no
+   * names of chairs, which are in `chairNames`. */
   script(): string {
     const lines = ["member,votes", ...Object.entries(this.opening).map((it) => it.join(",")), "script"];
     const { published } = this;
@@ -405,12 +443,26 @@ export class Register {
 
   /** A copy, which changes independently: for a question, or to keep. */
   copy(): Register {
-    return registerOf(this.#handle.copy(this.accepted), this.#names);
+    return registerOf(this.#handle.copy(this.accepted), this.#names.first(this.accepted));
   }
 
-  /** A copy for a question. It is the same as `copy`. */
-  whatIf(): Register {
-    return this.copy();
+  /**
+   * A copy for a question. With a function, what it answers of the copy, which is freed when it ends, so that thousands
+   * of questions take the memory of one. Without one it is the same as `copy`.
+   *
+   * @example
+   * register.whatIf((copy) => (copy.open(4), copy.indicesOfAll().quorum.leastSize));
+   */
+  whatIf(): Register;
+  whatIf<Answer>(ask: (copy: Register) => Answer): Answer;
+  whatIf<Answer>(ask?: (copy: Register) => Answer): Register | Answer {
+    const copy = this.copy();
+    if (ask === undefined) return copy;
+    try {
+      return ask(copy);
+    } finally {
+      copy.free();
+    }
   }
 
   /**
@@ -427,6 +479,7 @@ export class Register {
     const copy = this.#handle.copy(Number(to));
     this.#handle.free();
     this.#handle = copy;
+    this.#names = this.#names.first(copy.accepted);
     return copy.accepted;
   }
 
@@ -450,12 +503,12 @@ export class Register {
 class Started {
   constructor(
     readonly handle: Handle,
-    readonly names: ReadonlyMap<number, string>,
+    readonly names: ChairNames,
   ) {}
 }
 
 /** The register of a handle. @internal */
-export const registerOf = (handle: Handle, names: ReadonlyMap<number, string> = new Map()): Register =>
+export const registerOf = (handle: Handle, names = new ChairNames()): Register =>
   new Register(new Started(handle, names) as never);
 
 /** Starts a register of rows, and seats its members. */

@@ -126,8 +126,8 @@ export function rowsOf(table: unknown, use: Use): Row[] {
   const { cells, columns } = cellsOf(table);
   const other = [...columns].find((it) => !COLUMNS.includes(it));
   if (other !== undefined) throw new TypeError(`unknown column '${other}': ${ALLOWED.columns}`);
-  if (cells.length === 0) throw new TypeError("the table has no rows");
-  const wanted = WANTED[use].columns;
+  // A table without columns has no members.
+  const wanted = columns.size > 0 ? WANTED[use].columns : [];
   const missing = wanted.find((it) => !columns.has(it));
   if (missing !== undefined) {
     throw new TypeError(`no column '${missing}': a ${use} needs ${wanted.join(" and ")}, and ${ALLOWED.columns}`);

@@ -1,6 +1,8 @@
 #!/usr/bin/env node
 /** The program `voting-board replay`, which prints what `board replay` prints. */
-import { VERSION, Refused, replayBytes } from "voting-board";
+import {
+  VERSION, Refused, replay, type ChairIndices, type Fault, type Outcome, type Reading, type ReplayOptions,
+} from "voting-board";
 import { INPUT_BYTES } from "./names.js";
 import { builtin } from "./node.js";
 
@@ -15,9 +17,14 @@ Without FILE the script is read from standard input.
   --version     prints the version
 `;
 const [ENDED, FAULT, REJECTED] = [0, 1, 2];
+/** The characters that are written at a time. */
+const AT_A_TIME = 1 << 16;
 const files = builtin("node:fs");
 const { argv } = builtin("node:process");
 const { parseArgs } = builtin("node:util");
+
+/** The fault that ends a run. */
+type Ending = Pick<Fault, "record" | "name">;
 
 /** Ends with a reason on standard error. */
 class Stop extends Error {
@@ -73,14 +80,72 @@ function readOrFault(path: string | undefined): Uint8Array | undefined {
   }
 }
 
-function print(bytes: Uint8Array, fault: string | undefined): number {
+const bytesOf = (text: string): Uint8Array => new TextEncoder().encode(text);
+
+/** Writes to standard output. */
+function print(text: string): void {
   try {
-    write(1, bytes);
+    write(1, bytesOf(text));
   } catch {
-    fault = "WriteFault";
+    throw new Stop(FAULT, "WriteFault");
   }
-  if (fault === undefined) return ENDED;
-  throw new Stop(FAULT, fault);
+}
+
+/** A fraction as `board replay` prints it, not reduced. */
+const fraction = (over: number, under: number): string => (under === 0 ? "-" : `${over}/${under}`);
+
+function chairLine({ chair, weight, swings }: ChairIndices, { omega, coalitions }: Reading, all: number): string {
+  const under = [coalitions / 2, all, omega, coalitions - omega];
+  return `chair,${chair},${weight},${swings},${under.map((it) => fraction(swings, it)).join()}\n`;
+}
+
+/** The lines of a reading, from after its reader on. */
+function readingLines(it: Reading): string {
+  const { front, majority, chairs, quota, cast, total, omega, coalitions } = it;
+  const all = chairs.reduce((sum, { swings }) => sum + swings, 0);
+  const head = [front, majority, chairs.length, quota, cast, total, omega, coalitions].join();
+  return `${head}\n${chairs.map((chair) => chairLine(chair, it, all)).join("")}`;
+}
+
+/** Makes the lines of outcomes. Readings of the same board share their chairs, and so their lines. */
+class Lines {
+  readonly #made = new WeakMap<readonly ChairIndices[], string>();
+
+  of(it: Outcome): string {
+    if (it.kind === "refused") return `refused,${it.number},${it.name}\n`;
+    if (it.kind !== "reading") return `${it.kind},${it.number}\n`;
+    const made = this.#made.get(it.chairs) ?? readingLines(it);
+    this.#made.set(it.chairs, made);
+    return `reading,${it.reader},${made}`;
+  }
+}
+
+/** Standard output, of which no more than a part is held. */
+class Output {
+  #text = "";
+
+  put(text: string): void {
+    this.#text += text;
+    if (this.#text.length >= AT_A_TIME) this.flush();
+  }
+
+  flush(): void {
+    print(this.#text);
+    this.#text = "";
+  }
+}
+
+/** Prints the replay of an input as it goes. Returns the fault that ended it, or null. */
+function printReplay(input: Uint8Array, limits: ReplayOptions, output: Output): Ending | null {
+  const lines = new Lines();
+  try {
+    const run = replay(input, limits);
+    for (const it of run) output.put(lines.of(it));
+    return run.fault;
+  } catch (why) {
+    if (why instanceof Refused) return { record: 0, name: why.code };
+    throw why;
+  }
 }
 
 function parsed() {
@@ -96,18 +161,23 @@ function parsed() {
 
 function main(): number {
   const { values, positionals } = parsed();
-  const text = (it: string): Uint8Array => new TextEncoder().encode(it);
-  if (values.help) return print(text(HELP), undefined);
-  if (values.version) return print(text(`voting-board ${VERSION}\n`), undefined);
+  if (values.help || values.version) {
+    print(values.help ? HELP : `voting-board ${VERSION}\n`);
+    return ENDED;
+  }
   const [command, path, ...others] = positionals;
   if (command !== "replay" || others.length > 0) throw new Stop(REJECTED, `a command line is wrong\n\n${HELP}`);
   const [readers, journal] = [numberOf(values.readers, "readers"), numberOf(values.journal, "journal")];
   const limits = { ...(readers === undefined ? {} : { readers }), ...(journal === undefined ? {} : { journal }) };
-  replayBytes("", limits);
+  // Limits are rejected before the input is read.
+  replay("", limits);
   const input = readOrFault(path);
-  if (!input) return print(text("fault,0,ReadFault\n"), "ReadFault");
-  const { bytes, fault } = replayBytes(input, limits);
-  return print(bytes, fault?.name);
+  const output = new Output();
+  const fault = input ? printReplay(input, limits, output) : { record: 0, name: "ReadFault" };
+  if (fault) output.put(`fault,${fault.record},${fault.name}\n`);
+  output.flush();
+  if (!fault) return ENDED;
+  throw new Stop(FAULT, fault.name);
 }
 
 function status(): number {

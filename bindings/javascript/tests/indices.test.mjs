@@ -122,6 +122,8 @@ test("many boards", () => {
   deepEqual(many[0], { half: indices([50, 49, 1], "half"), 85: indices([50, 49, 1], "85") });
   deepEqual(indicesOfMany([[1], [1]], ["70"], { totals: [undefined, 3] }).map((it) => it["70"].omega), [1, 0]);
   deepEqual(indicesOfMany([], ["half"]), []);
+  // Catches: another default than in the other languages.
+  deepEqual(indicesOfMany([[50, 49, 1]]), [indicesOfAll([50, 49, 1])]);
   equal(badSheet(() => indicesOfMany([[1], [1], [5, -1]], ["half"])), `board 3: weight 2 is -1: ${WEIGHT}`);
   equal(badSheet(() => indicesOfMany([[1], [5]], ["half"], { totals: [1, 4] })),
     "board 2: the total is 4: at least the sum of the weights, 5");
@@ -184,7 +186,7 @@ test("tables that are no boards", () => {
   const missing = wrongType(() => indicesOfMembers([{ votes: 1 }], "half"));
   equal(missing, `no column 'chair': a board needs votes and chair, and ${COLUMNS}`);
   for (const empty of [[], {}, { votes: [], chair: [] }]) {
-    equal(wrongType(() => indicesOfMembers(empty, "half")), "the table has no rows");
+    deepEqual(indicesOfMembers(empty, "half"), indices([], "half"));
   }
   equal(
     wrongType(() => indicesOfMembers({ votes: [1, 2], chair: [1] }, "half")),

@@ -29,12 +29,14 @@ const run = (code, ...flags) => execFileSync(
 
 test("the exports, the same by import and by require", () => {
   const names = [
-    "Command", "Fraction", "MAJORITIES", "MEANINGS", "REFUSALS", "Refused", "Register", "Replay", "Script", "VERSION",
+    "Command", "Difference", "Fraction", "MAJORITIES", "MEANINGS", "REFUSALS", "Refused", "Register", "Replay",
+    "Script", "VERSION",
   ];
   const calls = [
     "indices",
     "indicesOfAll",
     "indicesOfMany",
+    "indicesOfManyInWorkers",
     "indicesOfMembers",
     "load",
     "loadSync",
@@ -47,6 +49,51 @@ test("the exports, the same by import and by require", () => {
   const required = require("voting-board");
   for (const name of Object.keys(board)) equal(required[name], board[name]);
   equal(require("voting-board/package.json").version, board.VERSION);
+});
+
+test("many boards are counted by workers as by one call", async () => {
+  const rows = Array.from({ length: 23 }, (_, at) => Array.from({ length: at % 9 }, (_, chair) => (at * chair) % 7));
+  rows.push({ North: 50, South: 49 }, [2 ** 48]);
+  const totals = rows.map((_, at) => (at === 3 ? 100 : undefined));
+  for (const majorities of [["85"], ["quorum", "half"], board.MAJORITIES, [], undefined]) {
+    const wanted = board.indicesOfMany(rows, majorities, { totals });
+    for (const workers of [1, 3, 40]) {
+      deepEqual(await board.indicesOfManyInWorkers(rows, majorities, { totals, workers }), wanted);
+    }
+  }
+  deepEqual(await board.indicesOfManyInWorkers([], ["half"]), []);
+  // Catches: workers whose code runs by the flags of this Node, as a module or not.
+  const code = `import { indicesOfManyInWorkers } from "voting-board";
+    console.log((await indicesOfManyInWorkers([[50, 49, 1]], ["half"]))[0].half.omega);`;
+  equal(run(code), "3\n");
+  // Catches: a refusal of a later board, and one that loses its board's place.
+  const bad = [...rows, [1, 2 ** 48], new Array(33).fill(0), [2 ** 48, 2 ** 48]];
+  for (const given of [bad, bad.slice(-2), bad.slice(-1), [[-1]], [["1"]]]) {
+    const { message } = thrown(() => board.indicesOfMany(given, ["half"]));
+    await rejects(board.indicesOfManyInWorkers(given, ["half"], { workers: 2 }), { message });
+  }
+  for (const workers of [0, 1.5, "2", null]) {
+    await rejects(board.indicesOfManyInWorkers([[1]], ["half"], { workers }), /^TypeError: the number of workers is/);
+  }
+  await rejects(board.indicesOfManyInWorkers([[1]], ["half"], { threads: 2 }), /unknown option 'threads'/);
+});
+
+// Catches: copies that stay in memory until a loop ends.
+test("thousands of questions take the memory of one", () => {
+  const script = `import { Register } from "voting-board";
+    const register = new Register({ AAA: 1 });
+    register.submit("open,1\\nclose,1\\n".repeat(50_000));
+    const before = process.memoryUsage.rss();
+    let accepted = 0;
+    for (let at = 0; at < 200; at++) accepted += register.whatIf((copy) => copy.open(1));
+    console.log(accepted, process.memoryUsage.rss() - before < 100e6);`;
+  equal(run(script), `${200 * 100_001} true\n`);
+  const register = new Register({ AAA: 1 });
+  let kept;
+  const why = thrown(() => register.whatIf((copy) => (kept = copy).close(1)));
+  equal(why.code, "ChairNotOpen");
+  equal(thrown(() => kept.accepted).code, "NoRegister");
+  equal(register.accepted, 0);
 });
 
 test("console.log and console.table show all", () => {

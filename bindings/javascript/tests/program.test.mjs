@@ -1,5 +1,5 @@
 // The program voting-board: what it prints, its status, and its standard error.
-import { deepEqual, equal, match } from "node:assert/strict";
+import { deepEqual, equal, match, ok } from "node:assert/strict";
 import { spawnSync } from "node:child_process";
 import { closeSync, mkdtempSync, openSync, rmSync, writeFileSync } from "node:fs";
 import { tmpdir } from "node:os";
@@ -13,8 +13,10 @@ const SCRIPT = "member,votes\nAAA,50\nscript\nopen,1\nmove,AAA,1\nopen,1\npublis
 const folder = mkdtempSync(join(tmpdir(), "voting-board-"));
 process.on("exit", () => rmSync(folder, { recursive: true }));
 
-function ran(words, input = "", stdio = "pipe") {
-  const { status, stdout, stderr } = spawnSync(PROGRAM, words, { input, encoding: "utf8", stdio, maxBuffer: 2 ** 30 });
+function ran(words, input = "", stdio = "pipe", options = "") {
+  const env = { ...process.env, NODE_OPTIONS: options };
+  const given = { input, encoding: "utf8", stdio, env, maxBuffer: 2 ** 30 };
+  const { status, stdout, stderr } = spawnSync(PROGRAM, words, given);
   return [status, stdout, stderr];
 }
 
@@ -67,10 +69,26 @@ test("help and the version", () => {
   deepEqual(ran(["--version"]), [0, `voting-board ${VERSION}\n`, ""]);
 });
 
-test("a long text is printed whole", () => {
+// What the program says at its end: the most memory that it had, in KiB.
+const MOST_MEMORY = "process.on('exit',()=>process.stderr.write(String(process.resourceUsage().maxRSS)))";
+
+// Catches: a text that is cut, and one that is held in memory.
+test("a long text is printed whole, as it comes", () => {
   const chairs = Array.from({ length: 32 }, (_, at) => `open,${at + 1}\n`).join("");
-  const script = `member,votes\nAAA,1\nscript\n${chairs}publish\n${"read,1,70\n".repeat(20_000)}`;
-  const [status, output] = ran(["replay"], script);
+  const begun = `member,votes\nAAA,1\nscript\n${chairs}publish\n`;
+  const script = begun + "read,1,70\nread,1,half\n".repeat(10_000);
+  const [status, output, most] = ran(["replay"], script, "pipe", `--import=data:text/javascript,${MOST_MEMORY}`);
   equal(status, 0);
-  equal(output.length, replayText(script).text.length);
+  ok(output === replayText(script).text);
+  const [, , least] = ran(["replay"], begun, "pipe", `--import=data:text/javascript,${MOST_MEMORY}`);
+  ok((Number(most) - Number(least)) * 1024 < output.length / 2, `${most} KiB, and ${least} for a short text`);
+});
+
+// Catches: a line that differs from the program's after a refusal or a publication, or a reading of an older board.
+test("lines are those of the text of the replay", () => {
+  const script = `${SCRIPT}read,2,85\nopen,2\nread,1,half\npublish\nread,1,half\nread,2,quorum\nclose,1\n`;
+  const lines = replayText(script, { readers: 2 }).text;
+  deepEqual(ran(["replay", "--readers", "2"], script), [0, lines, ""]);
+  const [status, text] = ran(["replay"], `${SCRIPT}opne,1\n`);
+  deepEqual([status, text], [1, replayText(`${SCRIPT}opne,1\n`).text]);
 });

@@ -207,7 +207,7 @@ test("rows that no register has", () => {
     ["BadChair", 14, "row 2: the name of chair 1 is 'B', and in row 1 it is 'A'"],
   );
   for (const empty of [[], { code: [], votes: [] }]) {
-    equal(wrongType(() => new Register(empty)), "the table has no rows");
+    deepEqual(new Register(empty).members, {});
   }
   equal(wrongType(() => new Register([["AAA", 1, 2]])), "row 1 is a list: a code and its votes");
 });
@@ -239,6 +239,13 @@ test("submit carries out records, commands and lists of them, all or none", () =
   none("publish\nread,1,half", 2, `refused 'read,1,half': ${BAD}`);
   none(["open,9", { kind: "open", chair: 33 }], 2, `the chair is 33: ${CHAIR}`);
   none("script\n", 1, `refused 'script': ${BAD}`);
+  // Catches: a text that is refused in other words than the call of its kind.
+  const [chair, votes] = ["a chair is a whole number from 1 to 32", "votes are whole numbers from 0 to 1099511627776"];
+  none("open,99", 1, `refused 'open,99': ${BAD}: the chair is 99: ${chair}`);
+  none("move,AAA,0", 1, `refused 'move,AAA,0': ${BAD}: the chair is 0: ${chair}, or null for no chair`);
+  none("votes,AAA,-5", 1, `refused 'votes,AAA,-5': ${BAD}: the votes of AAA are '-5' (string): ${votes}`);
+  none("suspend,aaa", 1, `refused 'suspend,aaa': ${BAD}: the code is 'aaa': a code is three ASCII capitals`);
+  none("constructor,1", 1, `refused 'constructor,1': ${BAD}`);
   equal(
     refused(() => register.submit({ kind: "mvoe", code: "AAA" }))[2],
     "no kind 'mvoe': open, close, move, votes, suspend, restore, admit, withdraw",

@@ -24,6 +24,18 @@ test("a fraction is in lowest terms, and compares as a number", () => {
   }
 });
 
+// Catches: a difference by floats, a sign of the wrong side, and numbers above 2^53 that are rounded.
+test("the difference of two fractions is exact", () => {
+  const gain = new Fraction(1, 5).minus(new Fraction(7, 15));
+  deepEqual([gain.numerator, gain.denominator, `${gain}`, Number(gain)], [-4n, 15n, "-4/15", -4 / 15]);
+  equal(JSON.stringify([gain, gain.minus]), '["-4/15",null]');
+  equal(`${new Fraction(1, 2).minus(new Fraction(2, 4))}`, "0");
+  const large = 2 ** 52;
+  const small = new Fraction(large - 1, large).minus(new Fraction(large - 2, large - 1));
+  equal(`${small}`, `1/${BigInt(large) * BigInt(large - 1)}`);
+  deepEqual([small.compare(gain), gain.compare(small), gain.compare(gain), small > gain], [1, -1, 0, true]);
+});
+
 test("results show all in JSON and after structuredClone", () => {
   const board = indices({ Alpha: 50, Beta: 49, Gamma: 1 }, "half");
   const { chairs, act, ...numbers } = JSON.parse(JSON.stringify(board));

@@ -21,6 +21,7 @@ from voting_board import (
     Indices,
     Majority,
     Member,
+    Reading,
     indices,
     indices_of_all,
     indices_of_many,
@@ -129,13 +130,43 @@ def test_help(name: str) -> None:
 
 def test_reprs() -> None:
     assert repr(BOARD.chairs[0]) == "Chair(chair=1, name=None, weight=50, swings=3)"
-    assert repr(BOARD).startswith("Indices(majority='half', quota=51, least_size=0, cast=100, total=100, omega=3, ")
     assert repr(Member(5, 1)) == "Member(votes=5, chair=1, suspended=False)"
     assert repr(RUN) == (
         "Replay(readers=1, journal=1000000, fault=Fault(record=8, number=17, name='BadRecord', "
         "reason='a record is not well formed'))"
     )
     assert set(MEANINGS) == set(MAJORITIES)
+
+
+def test_tables() -> None:
+    named = indices({"North": 50, "<b>": 49, "East": 1}, "half")
+    assert repr(named).splitlines() == [
+        "Majority half: 51 of 100 votes win, 3 of 8 coalitions do",
+        "chair   name  weight  swings   banzhaf     share   prevent  initiate",
+        "    1  North      50       3  0.750000  0.600000  1.000000  0.600000",
+        "    2    <b>      49       1  0.250000  0.200000  0.333333  0.200000",
+        "    3   East       1       1  0.250000  0.200000  0.333333  0.200000",
+    ]
+    html = named._repr_html_()
+    assert html.count("<tr>") == 4 and "<td>&lt;b&gt;</td>" in html and "<th>share</th>" in html
+    none = indices([0], "half")
+    assert repr(none).split()[-4:] == ["0.000000", "-", "-", "0.000000"]
+    assert repr(indices([], "quorum")).startswith("Majority quorum: 0 of 0 votes of 1 chairs or more win, 0 of 1 ")
+    reading = next(it for it in RUN if isinstance(it, Reading))
+    assert repr(reading).startswith(f"Record {reading.record}, reader 1, after {reading.front} commands. Majority ")
+
+
+def test_lookup() -> None:
+    board = indices_of_members({"votes": [5, 4], "chair": [3, 25], "chair_name": ["North", "South"]}, "half")
+    assert board.chair(25) is board.chair("South") is board.chairs[1]
+    twice = indices_of_members({"votes": [5, 4], "chair": [1, 2], "chair_name": ["North", "North"]}, "half")
+    for it, which, message in [
+        (board, 2, "0 chairs have the number 2"),
+        (board, "East", "0 chairs have the name 'East'"),
+        (twice, "North", "2 chairs have the name 'North'"),
+    ]:
+        with pytest.raises(KeyError, match=message):
+            it.chair(which)
 
 
 def test_records() -> None:

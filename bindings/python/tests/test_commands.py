@@ -47,6 +47,17 @@ def arguments() -> list[str]:
     return [f"--scenario={it}" for it in SCENARIOS] + [f"--sweep={it}" for it in SWEEPS]
 
 
+def test_no_terminal_sequence(tmp_path: Path) -> None:
+    # Catches: a name or a label by which a terminal is cleared, or shows another text than was printed.
+    table = tmp_path / "members.csv"
+    table.write_text("code,name,votes,chair,chair_name\nAAA,A,45,1,North\nBBB,B,30,2,South\x1b[2J\nCCC,C,20,3,East\n")
+    said = "\n".join(good("study", table, "--scenario=a\x1b]0;b\x07: votes,BBB,99", tmp_path / "out"))
+    assert "\x1b" not in said and "\x07" not in said
+    assert "South\\x1b[2J" in said and "a\\x1b]0;b\\x07:" in said
+    done = ran("study", table, "--scenario=a\x1b[2J: move,ZZZ,2", tmp_path / "other")
+    assert done.returncode == 1 and b"a\\x1b[2J" in done.stderr and b"\x1b" not in done.stderr
+
+
 def test_files_of_a_study(table: Path, tmp_path: Path) -> None:
     # Catches: provenance of another file, a path that tells where a file was, and a formula in a cell.
     before = {it: it.read_bytes() for it in tmp_path.iterdir()}
@@ -166,6 +177,40 @@ def test_files_take_their_places_together(tmp_path: Path, monkeypatch: pytest.Mo
     assert (tmp_path / "link").is_symlink() and one.read_text() == "after"
     with pytest.raises(BadStudy, match="isn't such a file"):
         place_of(one, "before")
+
+
+def test_files_of_others(table: Path, tmp_path: Path, monkeypatch: pytest.MonkeyPatch) -> None:
+    # Catches: a script or a table of the user's that is replaced, a changed mode, a wait for a pipe, and a traceback.
+    monkeypatch.chdir(tmp_path)
+    Path("mine.csv").write_text("member,votes\nAAA,1\nscript\n")
+    Path("out.csv").write_text("scenario,mine\n")
+    os.mkfifo("pipe")
+    Path("circle.csv").symlink_to("circle.csv")
+    for words, said in [
+        (["members.csv", "--replay", "mine.csv", "new"], "mine.csv is there already with another script"),
+        (["members.csv", "out"], "out.csv is there already and isn't such a file"),
+        (["pipe", "new"], "pipe is no file; - is standard input"),
+        (["/dev/zero", "new"], "/dev/zero is no file; - is standard input"),
+        (["members.csv", "circle"], "circle.csv: its links lead in a circle"),
+    ]:
+        done = ran("study", *words)
+        error = done.stderr.decode()
+        assert done.returncode == 1 and said in error and "Traceback" not in error, error
+    assert Path("mine.csv").read_text() == "member,votes\nAAA,1\nscript\n"
+    Path("mine.csv").chmod(0o600)
+    again = ["study", "members.csv", "--replay", "mine.csv", "--scenario", "a\x1b[2J: votes,AAA,41", "new"]
+    assert ran(*again, "--force").returncode == 0
+    done = ran(*again)
+    assert done.returncode == 0 and b"\x1b" not in done.stdout + done.stderr and b"\\x1b" in done.stdout
+    assert Path("mine.csv").stat().st_mode & 0o777 == 0o600
+
+
+@pytest.mark.parametrize("text", ["A,=1,B", "A; =1", "A\t@x", 'A,"B', "A;＝1", "A,+1+2"])
+def test_formulas_inside(text: str) -> None:
+    # Catches: a formula behind a semicolon, a tab or a comma, in a cell or in a line of comments; a changed number.
+    written = csv_text([text], ["name"], [[text]])
+    assert not re.search("[,;\t] *[=@＝]", written) and "+1+" not in written.replace("'+1+", "")
+    assert csv_text(["votes,AAA,+30%; votes,BBB,-5"], [], []) == "# votes,AAA,+30%; votes,BBB,-5\n\n"
 
 
 @pytest.mark.parametrize("cell", ["=1", "+a", "-a", "@a", "\ta", "-1=2"])

@@ -4,6 +4,8 @@ from __future__ import annotations
 import doctest
 import importlib
 import re
+import subprocess
+import sys
 from pathlib import Path
 
 import pytest
@@ -23,11 +25,18 @@ def test_docstrings(name: str) -> None:
 def test_readme(monkeypatch: pytest.MonkeyPatch) -> None:
     pytest.importorskip("matplotlib").use("Agg")
     monkeypatch.chdir(README.parents[2])
-    blocks = re.findall(r"^```pycon\n(.*?)^```$", README.read_text(), re.MULTILINE | re.DOTALL)
-    text = "\n".join(blocks)
-    example = doctest.DocTestParser().get_doctest(text, {}, "README.md", str(README), 0)
-    found = doctest.DocTestRunner(optionflags=doctest.ELLIPSIS | doctest.NORMALIZE_WHITESPACE).run(example)
-    assert blocks and found.attempted > 10 and found.failed == 0
+    # Catches: an example that passes here alone, by options that `python -m doctest` doesn't set.
+    found = doctest.testfile(str(README), module_relative=False)
+    assert found.attempted > 10 and found.failed == 0
+
+
+@pytest.mark.deep("a landing runs the same in a recipe of docs/USING.md")
+def test_many_boards_on_a_cluster(tmp_path: Path) -> None:
+    # Catches: counts that a worker of Dask can't make or send, or that differ from those of one call.
+    pytest.importorskip("distributed")
+    [code] = re.findall(r"^```python\n(.*?)^```$", README.read_text(), re.MULTILINE | re.DOTALL)
+    (tmp_path / "sample.py").write_text(code)
+    subprocess.run([sys.executable, str(tmp_path / "sample.py")], cwd=tmp_path, check=True, timeout=300)
 
 
 def test_readme_names_what_is_public() -> None:

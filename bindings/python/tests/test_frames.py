@@ -1,6 +1,7 @@
 """Arrays of numpy, tables of pandas and charts of matplotlib."""
 from __future__ import annotations
 
+import time
 from fractions import Fraction
 from pathlib import Path
 from typing import Any
@@ -92,14 +93,19 @@ def test_tables(frame: Any) -> None:
     assert (board.weights, board.total) == ((50, 49), 100) and board == register.indices("half")
 
 
+def test_frames_without_rows() -> None:
+    # Catches: a filter that leaves no member, which stops a study.
+    for frame in (FRAME[:0], pandas.DataFrame()):
+        assert Register(frame).members == {}
+        assert indices_of_members(frame, "half") == indices([], "half")
+
+
 def test_wrong_tables() -> None:
     for name in ("Suspended", "suspended_before", "open"):
         with pytest.raises(ValueError, match=f"unknown column '{name}': the columns are code, name, votes, chair, "):
             Register(FRAME.assign(**{name: True}))
     with pytest.raises(ValueError, match="the column 'votes' is there 2 times"):
         Register(pandas.concat([FRAME, FRAME[["votes"]]], axis=1))
-    with pytest.raises(ValueError, match="the table has no rows"):
-        Register(FRAME[:0])
     with pytest.raises(ValueError, match="unknown column 'Index'"):
         Register(list(FRAME.itertuples()))
     wrong = [([0, 1, 0], "0 (int)"), ([True, False, None], "None (NoneType)"), (pandas.NA, "<NA> (NAType)")]
@@ -166,7 +172,24 @@ def test_many_as_a_table() -> None:
     for name in ("banzhaf", "share", "prevent", "initiate"):
         own = [getattr(chair, name) for counts in many for it in counts.values() for chair in it.chairs]
         assert list(many.to_dataframe(floats=False)[name]) == own
-    assert many.floats("share").dtype == "float64" and many.floats("share").shape == (2, 2, 2)
+    assert many.share.dtype == "float64" and many.share.shape == (2, 2, 2) and many.act.shape == (2, 2)
+
+
+def test_frame_of_many_costs_less_than_its_counts() -> None:
+    # Catches: a frame that is made row by row. It compares times of the processor in one run.
+    rows = numpy.random.default_rng(1).integers(1, 400_000, (2000, 24))
+    start = time.process_time()
+    many = indices_of_many(rows, ["85"], processors=1)
+    counted = time.process_time()
+    table = many.to_dataframe()
+    assert time.process_time() - counted < counted - start
+    one = many[1999]["85"].to_dataframe(floats=True)
+    pandas.testing.assert_frame_equal(table[-24:][one.columns].reset_index(drop=True), one)
+    repeated = indices_of_many([[2, 1], [1]], ["half", "85", "half"])
+    for floats in (True, False):
+        frame = repeated.to_dataframe(floats=floats)
+        wanted = [it[name].to_dataframe(floats=floats) for it in repeated for name in repeated.majorities]
+        pandas.testing.assert_frame_equal(frame[COLUMNS], pandas.concat(wanted, ignore_index=True))
 
 
 def test_plot() -> None:

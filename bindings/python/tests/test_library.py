@@ -183,8 +183,7 @@ def test_registers_are_freed() -> None:
         register.submit("open,1\\nclose,1\\n" * 20_000)
         size = lambda: int(Path("/proc/self/statm").read_text().split()[1])
         for at in range(300):
-            with register.what_if() as other:
-                other.undo(30_000)
+            register.what_if().undo(30_000)
             if at == 50:
                 gc.collect()
                 before = size()

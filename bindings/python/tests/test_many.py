@@ -9,7 +9,8 @@ from typing import Any
 
 import pytest
 
-from voting_board import MAJORITIES, Majority, ManyIndices, indices, indices_of_many
+from voting_board import MAJORITIES, Majority, ManyIndices, indices, indices_of_all, indices_of_many
+from voting_board.results import INDEX_NAMES
 
 ROWS = [[50, 49, 1], [5, 5], [], [0, 0, 0, 7]]
 
@@ -18,7 +19,7 @@ def check(many: ManyIndices) -> None:
     """The arrays have the answers of `indices`, followed by zeros."""
     assert (len(many), many.chairs.tolist(), many.total.tolist()) == (4, [3, 2, 0, 4], [100, 10, 0, 7])
     assert many.weights.tolist() == [[50, 49, 1, 0], [5, 5, 0, 0], [0] * 4, [0, 0, 0, 7]]
-    shares = many.floats("share").tolist()
+    indexes = {name: getattr(many, name).tolist() for name in INDEX_NAMES}
     for at, (row, found) in enumerate(zip(ROWS, many)):
         assert tuple(found) == tuple(dict.fromkeys(many.majorities))
         for place, majority in enumerate(many.majorities):
@@ -27,7 +28,10 @@ def check(many: ManyIndices) -> None:
             assert (many.omega[at, place], many.quota[at, place]) == (one.omega, one.quota)
             assert many.least_size[at, place] == one.least_size
             assert many.swings.tolist()[at][place] == [*one.swings, *[0] * (4 - len(row))]
-            assert str(shares[at][place]) == str([*one.values("share"), *[float("nan")] * (4 - len(row))])
+            assert many.act[at, place] == float(one.act)
+            for name, found_by in indexes.items():
+                wanted = [*one.values(name), *[float("nan")] * (4 - len(row))]
+                assert str(found_by[at][place]) == str(wanted)
 
 
 @pytest.mark.parametrize(
@@ -55,8 +59,6 @@ def test_indexing() -> None:
             many[at]
     with pytest.raises(KeyError):
         many[0]["70"]
-    with pytest.raises(ValueError, match="no index 'power'"):
-        many.floats("power")  # type: ignore[arg-type]
 
 
 def test_order_over_chunks() -> None:
@@ -71,7 +73,7 @@ def test_empty() -> None:
     assert len(indices_of_many([], MAJORITIES)) == 0 and list(indices_of_many([], ["half"])) == []
     assert indices_of_many([[]], ["half"])[0]["half"].coalitions == 1
     assert indices_of_many([[1]], [])[0] == {}
-    assert indices_of_many([], ["half"]).floats("share").tolist() == []
+    assert indices_of_many([], ["half"]).share.tolist() == []
 
 
 def test_arguments() -> None:
@@ -112,3 +114,8 @@ def test_interrupt() -> None:
     with pytest.raises(KeyboardInterrupt):
         indices_of_many(rows, MAJORITIES, processors=2)
     assert time.process_time() - start < 30
+
+
+def test_majorities_that_are_left_out() -> None:
+    # Catches: another default than in the other languages.
+    assert indices_of_many([[50, 49, 1]])[0] == indices_of_all([50, 49, 1])

@@ -104,6 +104,15 @@ def test_commands_with_no_fault() -> None:
     assert register.submit('"move","AAA",5\r"mo"ve,BBB,none') == 13
 
 
+# What is wrong with a field of a record, in the words of the call of its kind.
+FIELDS = {
+    "open,33": "the chair is 33: a chair is a whole number from 1 to 32",
+    "move,AAA,x": "the chair is 'x' (str): a chair is a whole number from 1 to 32, or None for no chair",
+    "suspend,aaa": "the code is 'aaa': a code is three ASCII capitals",
+    "votes,AAA,1.0": "the votes of AAA are '1.0' (str): votes are whole numbers from 0 to 1099511627776",
+}
+
+
 @pytest.mark.parametrize(
     "records, record, command, byte",
     [
@@ -115,6 +124,7 @@ def test_commands_with_no_fault() -> None:
         ("open,33", 1, "open,33", 0),
         ("read,5,half", 1, "read,5,half", 0),
         ("suspend,aaa", 1, "suspend,aaa", 0),
+        ("move,AAA,x", 1, "move,AAA,x", 0),
         ("script", 1, "script", 0),
         ('open,9\r\n"open,1', 2, '"open,1', 8),
         ("\ufeffopen,9", 1, "\ufeffopen,9", 0),
@@ -132,7 +142,8 @@ def test_bad_records(records: str, record: int, command: str, byte: int) -> None
         why = refusal(call, records)
         assert (why.number, why.record, why.command) == (17, record, command)
         where = f"refused record {record} at byte {byte}, {command!r}: "
-        assert str(why) == f"{where}BadRecord (17), a record is not well formed"
+        field = f": {FIELDS[command]}" if command in FIELDS else ""
+        assert str(why) == f"{where}BadRecord (17), a record is not well formed{field}"
     assert state(register) == before
 
 
@@ -150,11 +161,51 @@ def test_wrong_commands() -> None:
     for value in (5, None, [5], [None], ["open,9", 5], {"open": 9}, [["open,9"]], [("open", None, 9, None)]):
         with pytest.raises(TypeError, match="a command is a Command, or a record such as 'open,1'"):
             register.submit(value)  # type: ignore[arg-type]
-    with pytest.raises(Refused, match="no command 'opne': open, close, move, votes, suspend, restore, admit, withdraw"):
-        register.submit(Command("opne", chair=1))  # type: ignore[arg-type]
-    with pytest.raises(TypeError, match=r"the chair is '9' \(str\)"):
-        register.submit(Command("open", chair="9"))  # type: ignore[arg-type]
     assert register.accepted == 6
+
+
+@pytest.mark.parametrize(
+    "parts, kind, message",
+    [
+        (
+            {"kind": "opne", "chair": 1},
+            Refused,
+            "no command 'opne': open, close, move, votes, suspend, restore, admit, ",
+        ),
+        ({"kind": "open"}, TypeError, r"the chair is None \(NoneType\): a chair is"),
+        ({"kind": "open", "chair": "9"}, TypeError, r"the chair is '9' \(str\)"),
+        ({"kind": "open", "chair": 33}, Refused, "the chair is 33: a chair is a whole number from 1 to 32$"),
+        ({"kind": "move", "code": "AAA", "chair": 0}, Refused, "the chair is 0: a chair is .*, or None for no chair$"),
+        ({"kind": "move", "chair": 1}, TypeError, r"the code is None \(NoneType\)"),
+        (
+            {"kind": "open", "chair": 1, "code": "AAA"},
+            TypeError,
+            "the command 'open' has no code: its parts are chair$",
+        ),
+        ({"kind": "votes", "code": "aaa", "votes": 1}, Refused, "the code is 'aaa'"),
+        ({"kind": "admit", "code": "AAA", "votes": -1}, Refused, "the votes of AAA are -1"),
+        (
+            {"kind": "votes", "code": "AAA", "votes": 1, "chair": 1},
+            TypeError,
+            "'votes' has no chair: its parts are code, ",
+        ),
+    ],
+)
+def test_commands_are_checked_when_made(parts: dict[str, Any], kind: type[Exception], message: str) -> None:
+    # Catches: a command that can be printed, and fails only when it is submitted.
+    with pytest.raises(kind, match=message):
+        Command(**parts)
+    for made in (Command("open", chair=1), Command("votes", "BBB", votes=2)):
+        with pytest.raises((TypeError, Refused)):
+            made._replace(**{"code": None, "chair": None, "votes": None, **parts})
+
+
+def test_commands() -> None:
+    found = Command("votes", "AAA", votes=5.0)
+    assert found == ("votes", "AAA", None, 5) and type(found.votes) is int and str(found) == "votes,AAA,5"
+    for made in (found, *opened().journal, Command("move", "AAA")):
+        for other in (pickle.loads(pickle.dumps(made)), copy.copy(made), made._replace(), Command(*made)):
+            assert (type(other), other, repr(other)) == (Command, made, repr(made))
 
 
 def test_journal_limit() -> None:
@@ -191,8 +242,7 @@ def test_copies() -> None:
     for other in (register.what_if(), register.copy(), copy.copy(register), copy.deepcopy(register)):
         assert state(other) == before
         other.move("AAA", None)
-    with register.what_if() as other:
-        assert other.admit("EEE", 7) == 7
+    assert register.what_if().admit("EEE", 7) == 7
     assert state(register) == before
 
 
@@ -257,7 +307,7 @@ def test_from_script(tmp_path: Path) -> None:
             SCRIPT + "\n\nopen,33\nopen,5",
             17,
             10,
-            "refused record 10, 'open,33': BadRecord (17), a record is not well formed",
+            f"refused record 10, 'open,33': BadRecord (17), a record is not well formed: {FIELDS['open,33']}",
         ),
         (
             SCRIPT + "read,5,half",
@@ -283,12 +333,13 @@ def test_scripts_with_faults(script: str, number: int, record: int | None, messa
 
 CODES = st.sampled_from(["AAA", "BBB", "CCC", "DDD"])
 CHAIRS, VOTES = st.integers(1, 3), st.integers(0, 9)
+NONE = st.none()
 COMMANDS = st.one_of(
-    st.builds(Command, st.sampled_from(["open", "close"]), chair=CHAIRS),
-    st.builds(Command, st.just("move"), CODES, st.one_of(st.none(), CHAIRS)),
-    st.builds(Command, st.sampled_from(["votes", "admit"]), CODES, votes=VOTES),
-    st.builds(Command, st.sampled_from(["suspend", "restore", "withdraw"]), CODES),
-)
+    st.tuples(st.sampled_from(["open", "close"]), NONE, CHAIRS),
+    st.tuples(st.just("move"), CODES, st.one_of(NONE, CHAIRS)),
+    st.tuples(st.sampled_from(["votes", "admit"]), CODES, NONE, VOTES),
+    st.tuples(st.sampled_from(["suspend", "restore", "withdraw"]), CODES),
+).map(Command._make)
 
 
 @given(st.lists(COMMANDS, max_size=40), st.integers(0, 40))

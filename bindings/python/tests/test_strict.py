@@ -72,6 +72,19 @@ def test_corpus(case: Case) -> None:
     assert case.is_clean, "the page asks about it"
 
 
+def test_what_a_table_says_besides() -> None:
+    # Catches: a suspension that is a part of a name, a group among members, and a sum of others without a chair.
+    suspended = said_of("code,name,votes,chair\nAAA,Alpha (voting rights suspended),9,1\n")
+    assert "speaks of a suspension" in suspended[0]
+    for name in ("G7", "Euro area", "of which: EU", "Emerging and developing economies"):
+        assert "is the name of several members together" in said_of(f"code,name,votes,chair\nAAA,{name},9,1\n")[0]
+    assert (
+        "more than those of any member" in said_of("code,votes,chair\nAAA,9,1\nBBB,8,1\nDDD,6,2\nEEE,5,2\nCCC,10,\n")[0]
+    )
+    assert "or the sum of others" in said_of("name,votes,chair\nJapan,9,1\nChad,8,1\nFiji,3,2\nMali,3,2\nClub,2,\n")[0]
+    assert read_table(b"name,votes,chair\nSouth Africa,9,1\nCentral African Republic,8,2\n").members[0].code == "ZAF"
+
+
 PLAIN = "code,votes,chair\nAAA,40,1\nBBB,25,2\nCCC,16,2\nDDD,9,\n"
 
 
@@ -90,7 +103,8 @@ def test_register() -> None:
         "CCC": (16, 2),
         "DDD": (9, None),
     }
-    assert said_of(PLAIN, total=91) == ["row 1: the votes below add up to 90, and the published total is 91"]
+    short = "row 1: the votes below add up to 90, and the published total is 91. If the table leaves members out, "
+    assert said_of(PLAIN, total=91) == [f"{short}add a row for them, with 1 votes and no chair"]
 
 
 @pytest.mark.parametrize(

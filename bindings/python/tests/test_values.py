@@ -257,8 +257,11 @@ def test_columns() -> None:
     )
     wrong(lambda: Register(table | {"votes": [1]}), "columns of unequal length: code 2, votes 1, chair 2", ValueError)
     for empty in ([], {"code": [], "votes": []}, iter([])):
-        wrong(lambda: Register(empty), "the table has no rows", ValueError)  # type: ignore[arg-type]
-    wrong(lambda: indices_of_members([], "half"), "the table has no rows", ValueError)
+        assert Register(empty).members == {}
+    wrong(
+        lambda: Register({"code": []}), f"no column 'votes': a register needs code and votes, and {columns}", ValueError
+    )
+    assert indices_of_members([], "half") == indices([], "half")
     wrong(lambda: Register([{"code": "AAA", "votes": 1}, {"code": "BBB"}]), "row 2: no 'votes'", ValueError)
     wrong(lambda: Register(table | {"code": "AAABBB"}), "the column 'code' is 'AAABBB' (str): a list or an array")
     for value in (5, None, "AAA", b"AAA", {"AAA"}):

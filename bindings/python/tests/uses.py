@@ -57,6 +57,7 @@ assert_type(many[3]["half"], Indices)
 half: Indices = many[0]["half"]
 omega: int = int(many.omega.sum())
 difference = many.swings - many.swings
+shares: list[float] = many.share[0, 0].tolist()
 wins: list[int] = [it["85"].omega for it in many]
 many.to_dataframe(floats=False)
 indices_of_members([Member(5, 1), Named(1, 2)], "half", open_chairs=[3])
@@ -68,8 +69,7 @@ accepted: int = register.move("AAA", None)
 register.submit(["open,1", Command("open", chair=2)])
 refusal: Optional[Refused] = register.attempt("open,1")
 command: Optional[str] = Refused(1, "", "open,1").command
-with register.what_if() as other:
-    other.undo()
+register.what_if().undo()
 for outcome in replay(Path("script.csv")):
     if isinstance(outcome, (Reading, Accepted)):
         record: int = outcome.record
@@ -92,6 +92,9 @@ many.to_dataframe(False)  # wrong
 board.omega = 5  # wrong
 board.chairs[0].swings = 5  # wrong
 Command("opne")  # wrong
+board.chair(None)  # wrong
+with register.what_if():  # wrong
+    pass
 indices_of_members([(50, 1)], "half")  # wrong
 fraction: Fraction = board.chairs[0].share  # wrong
 board.values("power")  # wrong

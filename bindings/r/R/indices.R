@@ -93,7 +93,7 @@ board_indices_of_many <- function(rows, majorities = c("half", "70", "85", "quor
   numbers <- vapply(majorities, majority_number, 0L, USE.NAMES = FALSE)
   many <- .Call(C_many, weights, sums, numbers, threads_of(processors))
   names(weights) <- names(boards)
-  arrays_of(many, weights, majorities)
+  arrays_of(many, weights, sums, majorities)
 }
 
 # Boards as a list of weights: the rows of a matrix or of a data frame of numbers, or a list of vectors.
@@ -131,41 +131,47 @@ totals_of <- function(totals, weights) {
 }
 
 # The results of many boards as arrays by board, majority and chair.
-arrays_of <- function(many, weights, majorities) {
+arrays_of <- function(many, weights, totals, majorities) {
   boards <- length(weights)
   kinds <- length(majorities)
-  most <- max(0L, lengths(weights))
+  chairs <- lengths(weights)
+  most <- max(0L, chairs)
   by_majority <- list(names(weights), majorities)
   for (name in c("quota", "least_size", "omega")) many[[name]] <- array(many[[name]], c(boards, kinds), by_majority)
   by_chair <- c(by_majority, list(NULL))
   swings <- many$swings <- array(many$swings, c(boards, kinds, most), by_chair)
-  all <- rowSums(swings, na.rm = TRUE, dims = 2)
-  divided <- function(by) array(swings / ifelse(c(by) == 0, NA, c(by)), dim(swings), by_chair)
-  losing <- many$coalitions - many$omega
+  coalitions <- 2^unname(chairs)
+  cast <- vapply(weights, sum, 0, USE.NAMES = FALSE)
   weight <- t(vapply(weights, function(it) c(it, rep(NA_real_, most - length(it))), numeric(most)))
   weight <- array(if (most == 1) t(weight) else weight, c(boards, most), list(names(weights), NULL))
-  rest <- list(
-    act = many$omega / many$coalitions, weight = weight, banzhaf = divided(rep(many$coalitions / 2, kinds)),
-    share = divided(all), prevent = divided(many$omega), initiate = divided(losing)
-  )
-  structure(c(list(majorities = majorities), many, rest), class = "board_indices_of_many")
+  all <- rowSums(swings, na.rm = TRUE, dims = 2)
+  shares <- lapply(divisors(rep(coalitions, kinds), many$omega, all), function(by) {
+    array(swings / ifelse(c(by) == 0, NA, c(by)), dim(swings), by_chair)
+  })
+  head <- list(majorities = majorities, chairs = unname(chairs), cast = cast, total = totals, coalitions = coalitions)
+  rest <- list(act = many$omega / coalitions, weights = weight)
+  structure(c(head, many, rest, shares), class = "board_indices_of_many")
 }
 
-as.data.frame.board_indices_of_many <- function(x, row.names = NULL, optional = FALSE, ...) {
+as.data.frame.board_indices_of_many <- function(x, row.names = NULL, optional = FALSE, ..., fractions = "double") {
   no_more(...)
+  exact <- is_exact(fractions)
   at <- arrayInd(which(!is.na(x$swings)), dim(x$swings))
   at <- at[order(at[, 1], at[, 2], at[, 3]), , drop = FALSE]
+  board <- at[, 1:2, drop = FALSE]
   names <- rownames(x$omega)
+  omega <- x$omega[board]
+  swings <- x$swings[at]
   frame <- data.frame(
-    board = if (is.null(names)) at[, 1] else names[at[, 1]], majority = x$majorities[at[, 2]],
-    omega = x$omega[at[, 1:2, drop = FALSE]], chair = at[, 3], weight = x$weight[at[, c(1, 3), drop = FALSE]]
+    board = if (is.null(names)) at[, 1] else names[at[, 1]], majority = x$majorities[at[, 2]], omega = omega,
+    chair = at[, 3], weight = x$weights[at[, c(1, 3), drop = FALSE]], swings = swings
   )
-  for (name in c("swings", names(divisors(1, 1, 1)))) frame[[name]] <- x[[name]][at]
-  frame
+  all <- rowSums(x$swings, na.rm = TRUE, dims = 2)[board]
+  cbind(frame, fractions_of(swings, x$coalitions[at[, 1]], omega, all, exact))
 }
 
 print.board_indices_of_many <- function(x, ...) {
-  cat("The voting power on ", length(x$total), " boards of up to ", ncol(x$weight), " chairs, by ", sep = "")
+  cat("The voting power on ", length(x$total), " boards of up to ", ncol(x$weights), " chairs, by ", sep = "")
   cat(paste(x$majorities, collapse = ", "), "\n", sep = "")
   cat("In it: ", paste(names(x), collapse = ", "), "\n", sep = "")
   invisible(x)

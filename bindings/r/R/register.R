@@ -1,7 +1,12 @@
 # A register of members, votes and chairs, which changes in place.
 
-new_register <- function(handle, chair_names = NULL) {
-  structure(list(handle = handle, chair_names = chair_names), class = "board_register")
+new_register <- function(handle) structure(list(handle = handle), class = "board_register")
+
+# What a register holds is asked of functions: a name that a list doesn't have would be NULL.
+`$.board_register` <- function(x, name) {
+  call <- paste0("board_", name)
+  where <- if (call %in% getNamespaceExports("votingboard")) paste0(call, "() asks for it")
+  type_error("a register has no $", name, ": ", if (is.null(where)) "?board_state has its calls" else where)
 }
 
 # The handle of a register, which is there.
@@ -23,14 +28,17 @@ board_register <- function(members, journal = 1000000) {
   }
   handle <- .Call(C_start, table$codes, table$votes, most)
   if (is.integer(handle)) refuse_number(handle)
-  r <- new_register(handle, table$chair_names)
+  r <- new_register(handle)
   seated <- table$seats > 0
+  chairs <- sort(unique(table$seats[seated]))
   records <- c(
-    sprintf("open,%.0f", sort(unique(table$seats[seated]))),
+    sprintf("open,%.0f", chairs),
     sprintf("move,%s,%.0f", table$codes[seated], table$seats[seated]),
     sprintf("suspend,%s", table$codes[table$suspended])
   )
   board_submit(r, records)
+  names <- table$chair_names[chairs]
+  if (!is.null(names)) .Call(C_set_names, handle, list(opening = seq_along(chairs), name = names))
   r
 }
 
@@ -52,12 +60,12 @@ record_of <- function(kind, code, chair, votes) {
   paste(c(kind, unlist(parts[KINDS[[kind]]])), collapse = ",")
 }
 
-# Carries out a command whose parts are checked.
-command <- function(r, kind, code = "", chair = 0, votes = 0) {
+# Carries out a command whose parts are checked, and sets the names of chairs.
+command <- function(r, kind, code = "", chair = 0, votes = 0, names = NULL) {
   number <- match(kind, names(KINDS)) - 1L
-  done <- .Call(C_apply, handle_of(r), number, code, chair, votes)
+  done <- .Call(C_apply, handle_of(r), number, code, chair, votes, names)
   if (done < 0) refuse_command(-done, record_of(kind, code, chair, votes))
-  invisible(done)
+  invisible(r)
 }
 
 refuse_command <- function(number, text) {
@@ -71,7 +79,11 @@ refusal_of_command <- function(number, text, where = NULL, record = NULL) {
     command = text, record = record)
 }
 
-board_open <- function(r, chair) command(r, "open", chair = one_chair(chair))
+board_open <- function(r, chair, name = NA) {
+  chair <- one_chair(chair)
+  name <- one_name(name)
+  command(r, "open", chair = chair, names = if (!is.na(name)) with_name(handle_of(r), board_accepted(r) + 1L, name))
+}
 board_close <- function(r, chair) command(r, "close", chair = one_chair(chair))
 board_move <- function(r, code, chair) command(r, "move", one_code(code), one_chair(chair, or_none = TRUE))
 board_set_votes <- function(r, code, votes) {
@@ -89,7 +101,7 @@ board_withdraw <- function(r, code) command(r, "withdraw", one_code(code))
 board_publish <- function(r) {
   published <- .Call(C_publish, handle_of(r))
   if (published < 0) refuse_number(-published)
-  invisible(published)
+  invisible(r)
 }
 
 # Records as text, from text, commands, or a list of these.
@@ -123,13 +135,35 @@ refusal_at <- function(place, text, is_one = FALSE) {
   shown <- sub("^[\r\n]+", "", rawToChar(bytes[bytes != 0]), useBytes = TRUE)
   shown <- sub(if (has_end) "[\r\n]+$" else "[\r\n].*", "", shown, useBytes = TRUE)
   where <- paste0("record ", place[2], if (!has_end) paste(", after byte", place[3]), ": ")
-  refusal_of_command(number, shown, if (!is_one) where, place[2])
+  why <- refusal_of_command(number, shown, if (!is_one) where, place[2])
+  if (name == "BadRecord") why$message <- paste0(why$message, wrong_field(shown))
+  why
+}
+
+# What is wrong with a field of a record, in the words of the call of its kind. Empty where it is no field.
+wrong_field <- function(record) {
+  fields <- strsplit(paste0(record, ",."), ",", fixed = TRUE, useBytes = TRUE)[[1]]
+  kind <- fields[1]
+  values <- as.list(fields[-c(1, length(fields))])
+  parts <- if (kind %in% names(KINDS)) KINDS[[kind]]
+  if (is.null(parts) || length(values) != length(parts)) return("")
+  names(values) <- parts
+  number <- function(it) if (grepl("^[0-9]{1,30}$", it)) as.double(it) else it
+  why <- tryCatch(error = conditionMessage, {
+    if (!is.null(values$code)) one_code(values$code)
+    if (!is.null(values$chair) && !(kind == "move" && values$chair == "none")) {
+      one_chair(number(values$chair), or_none = kind == "move")
+    }
+    if (!is.null(values$votes)) one_votes(number(values$votes), values$code)
+    NULL
+  })
+  if (is.null(why)) "" else paste0(": ", why)
 }
 
 board_submit <- function(r, commands) {
   why <- submitted(C_submit, r, commands)
   if (!is.null(why)) stop(why)
-  invisible(board_accepted(r))
+  invisible(r)
 }
 
 board_attempt <- function(r, command) submitted(C_submit, r, command)
@@ -141,22 +175,22 @@ board_accepted <- function(r) .Call(C_state, handle_of(r))[1]
 board_published <- function(r) .Call(C_state, handle_of(r))[2]
 
 board_read <- function(r, majority) {
-  counted(.Call(C_counts, handle_of(r), majority_number(majority), .subset2(r, "chair_names"), TRUE))
+  counted(.Call(C_counts, handle_of(r), majority_number(majority), chair_names(r, TRUE), TRUE))
 }
 
 board_indices.board_register <- function(x, majority, ...) {
   no_more(...)
-  counted(.Call(C_counts, handle_of(x), majority_number(majority), .subset2(x, "chair_names"), FALSE))
+  counted(.Call(C_counts, handle_of(x), majority_number(majority), chair_names(x), FALSE))
 }
 
 board_indices_of_all.board_register <- function(x, ...) {
   no_more(...)
-  counted(.Call(C_counts, handle_of(x), ALL, .subset2(x, "chair_names"), FALSE))
+  counted(.Call(C_counts, handle_of(x), ALL, chair_names(x), FALSE))
 }
 
 board_members <- function(r) {
   members <- as.data.frame(.Call(C_rows, handle_of(r)))
-  names <- .subset2(r, "chair_names")
+  names <- chair_names(r)
   if (!is.null(names)) members$chair_name <- names[members$chair]
   members
 }
@@ -167,7 +201,7 @@ board_chairs <- function(r) {
   handle <- handle_of(r)
   words <- .Call(C_sheet, handle)[seq_len(CHAIRS)]
   chairs <- data.frame(chair = which(words > 0))
-  names <- .subset2(r, "chair_names")
+  names <- chair_names(r)
   if (!is.null(names)) chairs$name <- names[chairs$chair]
   chairs$weight <- words[chairs$chair] - 1
   members <- .Call(C_rows, handle)
@@ -195,7 +229,7 @@ as.character.board_commands <- function(x, ...) {
 board_copy <- function(r) {
   copy <- .Call(C_copy, handle_of(r), COMMANDS)
   if (is.integer(copy)) refuse_number(copy)
-  new_register(copy, .subset2(r, "chair_names"))
+  new_register(copy)
 }
 
 board_what_if <- function(r) board_copy(r)
@@ -204,9 +238,9 @@ board_undo <- function(r, to = board_accepted(r) - 1) {
   handle <- handle_of(r)
   length <- one_number(to, "to is", ALLOWED[["length"]])
   if (!is_whole(length, 0, board_accepted(r))) refuse("BadIndex", "to is ", shown(to), ": ", ALLOWED[["length"]])
-  refused <- .Call(C_undo, handle, length)
-  if (refused > 0) refuse_number(refused)
-  invisible(as.integer(length))
+  refused <- .Call(C_undo, handle, length, names_until(handle, length))
+  if (!is.null(refused)) refuse_number(refused)
+  invisible(r)
 }
 
 # Scripts.
@@ -217,15 +251,15 @@ board_script <- function(r) {
   published <- board_published(r)
   if (published > 0) records <- append(records, "publish", published)
   lines <- c("member,votes", sprintf("%s,%.0f", members$code, members$votes), "script", records)
-  paste0(paste(lines, collapse = "\n"), "\n")
+  as_text(paste0(paste(lines, collapse = "\n"), "\n"))
 }
 
-board_from_script <- function(text, journal = 1000000, file = NULL) {
+board_from_script <- function(text, journal = 1000000, file = NULL, names = NULL) {
   most <- journal_limit(journal)
   input <- input_of(text, file, "board_from_script")
   got <- .Call(C_from_script, input, most)
   if (is.double(got)) stop(refusal_at(got, input))
-  new_register(got)
+  rename_all(new_register(got), names)
 }
 
 format.board_register <- function(x, ...) {

@@ -87,5 +87,5 @@ board_replay_text <- function(text, readers = 1, journal = 1000000, file = NULL)
   limits <- c(readers_limit(readers), journal_limit(journal))
   input <- input_of(text, file, "board_replay_text")
   got <- .Call(C_replay_text, input, limits[1], limits[2])
-  list(text = got$text, fault = fault_of(got$fault, got$record))
+  list(text = as_text(got$text), fault = fault_of(got$fault, got$record))
 }

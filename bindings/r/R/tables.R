@@ -4,6 +4,7 @@
 columns_of <- function(table, needed) {
   columns <- unclass(table)
   names <- names(columns)
+  if (length(columns) == 0) return(list())
   if (is.null(names)) type_error("the table has no names of columns: ", ALLOWED[["columns"]])
   unknown <- setdiff(names, COLUMNS)
   if (length(unknown) > 0) type_error("unknown column ", shown(unknown[1]), ": ", ALLOWED[["columns"]])
@@ -20,7 +21,6 @@ columns_of <- function(table, needed) {
       type_error("column ", shown(name), " has ", length(column), " rows, and the table has ", rows)
     }
   }
-  if (rows == 0) type_error("the table has no rows")
   attributes(columns) <- list(names = names)
   columns
 }
@@ -85,10 +85,14 @@ suspensions_of <- function(suspended, refused) {
   as.vector(suspended)
 }
 
+# Those of a table without rows. Its columns may be of any type: an empty file has none.
+NO_MEMBERS <- list(votes = numeric(0), codes = character(0), seats = numeric(0), suspended = logical(0))
+
 # The members of a table, checked: votes, seats (0 for none), suspended, chair_names (NULL for none), and codes if the
 # table has them.
 members_of <- function(table, in_register) {
   columns <- columns_of(table, if (in_register) c("code", "votes") else c("votes", "chair"))
+  if (length(columns[["votes"]]) == 0) return(NO_MEMBERS)
   bad <- function(chair) if (!in_register) "BadSheet" else if (chair) "BadChair" else "BadRecord"
   of_votes <- function(at) in_row(at, "the votes are")
   votes <- numbers_of(columns[["votes"]], of_votes, ALLOWED[[if (in_register) "votes" else "weight"]])

@@ -109,9 +109,10 @@ one_code <- function(code) {
   code
 }
 
-# One chair's number; with `or_none`, NA and NULL are 0, no chair.
+# One chair's number; with `or_none`, NA is 0, no chair. NULL is no chair's number: it is what a list or a data frame
+# gives for a name that it doesn't have.
 one_chair <- function(chair, or_none = FALSE) {
-  if (or_none && (is.null(chair) || (is.atomic(chair) && length(chair) == 1 && is.na(chair)))) return(0)
+  if (or_none && is.atomic(chair) && length(chair) == 1 && is.na(chair)) return(0)
   allowed <- ALLOWED[[if (or_none) "seat" else "chair"]]
   number <- one_number(chair, "the chair is", allowed)
   if (!is_whole(number, 1, CHAIRS)) refuse("BadChair", "the chair is ", shown(chair), ": ", allowed)
@@ -128,6 +129,14 @@ no_more <- function(...) {
   if (...length() == 0) return()
   name <- c(names(list(...)), "")[1]
   type_error("unknown argument", if (nzchar(name)) paste0(" '", name, "'"))
+}
+
+# A text of several lines, which is printed as such.
+as_text <- function(text) structure(text, class = c("board_text", "character"))
+
+print.board_text <- function(x, ...) {
+  cat(x, sep = "")
+  invisible(x)
 }
 
 # The bytes of an input: a text, its lines, raw bytes, or a file.

@@ -1,6 +1,7 @@
 \name{board_commands}
 \alias{board_commands}
 \alias{board_open}
+\alias{board_rename}
 \alias{board_close}
 \alias{board_move}
 \alias{board_set_votes}
@@ -18,8 +19,9 @@
 Carry out commands on a register, in place.
 }
 \usage{
-board_open(r, chair)
+board_open(r, chair, name = NA)
 board_close(r, chair)
+board_rename(r, chair, name)
 board_move(r, code, chair)
 board_set_votes(r, code, votes)
 board_suspend(r, code)
@@ -36,7 +38,8 @@ board_undo(r, to = board_accepted(r) - 1)
 }
 \arguments{
 \item{r}{A register, of \code{\link{board_register}}.}
-\item{chair}{The number of a chair, from 1 to 32. Of \code{board_move} also \code{NA} or \code{NULL}, for no chair.}
+\item{chair}{The number of a chair, from 1 to 32. Of \code{board_move} also \code{NA}, for no chair.}
+\item{name}{The name of the chair, a text; or \code{NA} for none.}
 \item{code}{The code of a member: three ASCII capitals.}
 \item{votes}{Votes, a whole number from 0 to 2^40.}
 \item{commands, command}{Records as text, such as \code{"move,AAA,3"} or \code{"publish"}: one or more in a text, or a
@@ -51,6 +54,10 @@ board_undo(r, to = board_accepted(r) - 1)
 \code{board_suspend}, \code{board_restore} \tab suspend a member's votes; end a suspension\cr
 \code{board_admit}, \code{board_withdraw} \tab add a member, in no chair; remove one that is in no chair
 }
+\code{board_open} can give the chair a name, which it has until it is closed: a chair that is closed and opened again
+is a new chair without a name. \code{board_rename} gives an open chair another name, or none, from when it was opened
+until it is closed. It is no command: the journal, scripts and \code{board_undo} know nothing of it.
+
 \code{board_submit} carries out records, all or none. \code{board_check} only says what would refuse them.
 \code{board_attempt} carries them out, and returns a refusal in place of raising it.
 
@@ -60,21 +67,22 @@ board_undo(r, to = board_accepted(r) - 1)
 more than \code{to} were, all that are left are published, and \code{\link{board_read}} counts the register after them.
 }
 \value{
-The commands and \code{board_submit} return the number of accepted commands, \code{board_publish} that of published
-ones, and \code{board_undo} that of those that stay, all of them invisibly. \code{board_check} and
-\code{board_attempt} return \code{NULL}, or the refusal: a condition of class \code{"board_refused"}.
+The commands, \code{board_rename}, \code{board_submit}, \code{board_publish} and \code{board_undo} return the register,
+invisibly, so that they follow each other in a pipe. \code{board_check} and \code{board_attempt} return \code{NULL}, or
+the refusal: a condition of class \code{"board_refused"}.
 }
 \section{Conditions}{
 \link{board_refused}: a command that the register refuses changes nothing. A list is refused with the number and the
-text of its first refused record. A record \code{read} is refused, since it is no command. Where memory runs out,
-\code{OutOfMemory} refuses the command, the whole list, or \code{board_undo}, and the register stays as it is; but if it
-runs out while the records of a list are taken back, those before the refused one stay carried out.
+text of its first refused record. \code{board_rename} refuses a closed chair. A record \code{read} is refused, since it
+is no command. Where memory runs out, \code{OutOfMemory} refuses the command, the whole list, or \code{board_undo}, and
+the register stays as it is. A list of two or more records is carried out on a copy, which takes the register's place at
+the end.
 }
 \examples{
 r <- board_register(c(AAA = 50, BBB = 49, CCC = 1))
-board_open(r, 1)
-board_move(r, "AAA", 1)
+r |> board_open(1) |> board_move("AAA", 1)
 board_submit(r, c("open,2", "move,BBB,2"))
+board_accepted(r)
 board_check(r, "move,CCC,3")
 tryCatch(board_close(r, 1), board_refused = function(why) why$name)
 board_undo(r, 2)

@@ -13,14 +13,14 @@ board_what_if(r)
 \item{r}{A register, of \code{\link{board_register}}.}
 }
 \value{
-A register with the same members, journal, publication and names of chairs. The two functions are the same.
+A register with the same members, journal, publication and names of chairs. The two functions are the same. A copy that
+nothing refers to is freed by R's collector, which the package calls when copies hold much memory.
 }
 \section{Conditions}{
 \link{board_refused}: a register that is gone, or no memory.
 }
 \examples{
 r <- board_register(data.frame(code = c("AAA", "BBB", "CCC"), votes = c(50, 49, 1), chair = 1:3))
-what <- board_what_if(r)
-board_move(what, "CCC", 2)
+what <- board_what_if(r) |> board_move("CCC", 2)
 board_indices(what, "half")$chairs$share - board_indices(r, "half")$chairs$share
 }

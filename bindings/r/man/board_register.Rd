@@ -19,11 +19,13 @@ board_register(members, journal = 1000000)
 }
 \details{
 \strong{A register changes in place.} \code{s <- r} is a second name for the same register, and a function that is given
-a register changes it for its caller. \code{\link{board_copy}} makes a register of its own.
+a register changes it for its caller. It has no fields for \code{$}: functions such as \code{\link{board_members}} say
+what it holds. \code{\link{board_copy}} makes a register of its own.
 
 The chairs of a table are opened by number, its members are moved to them by row, and those that are suspended are
-suspended: these are the first commands of the journal. Names of chairs are kept for results, and are no part of the
-journal or of \code{\link{board_script}}.
+suspended: these are the first commands of the journal. A chair has its name until it is closed: a chair that is closed
+and opened again is a new chair, and \code{\link{board_undo}} gives back the name that it had. Names are no part of the
+journal or of \code{\link{board_script}}: \code{\link{board_chair_names}} has them.
 
 A register lives in memory outside R. One that was saved with a workspace or by \code{saveRDS} can't be read back: save
 the text of \code{board_script} in its place.

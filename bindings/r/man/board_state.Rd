@@ -3,6 +3,7 @@
 \alias{board_members}
 \alias{board_opening}
 \alias{board_chairs}
+\alias{board_chair_names}
 \alias{board_journal}
 \alias{as.character.board_commands}
 \alias{board_accepted}
@@ -16,6 +17,7 @@ The members, chairs and commands of a register, and what its readers see.
 board_members(r)
 board_opening(r)
 board_chairs(r)
+board_chair_names(r)
 board_journal(r)
 board_accepted(r)
 board_published(r)
@@ -36,6 +38,7 @@ board_read(r, majority)
 \item{board_opening}{a data frame of the members with which the register started: \code{code}, \code{votes}}
 \item{board_chairs}{a data frame of the open chairs: \code{chair}, \code{name} if chairs have names, \code{weight} in
   votes, and \code{members}, a list of their codes}
+\item{board_chair_names}{the names of the open chairs that have one: a vector of texts, named by the chairs' numbers}
 \item{board_journal}{the accepted commands, a data frame of class \code{"board_commands"}: \code{kind}, \code{code},
   \code{chair}, \code{votes}. A part that the kind hasn't, and no chair, are \code{NA}. \code{as.character} gives the
   records as text, and \code{\link{board_submit}} takes it.}

@@ -12,7 +12,7 @@
 #include <stdlib.h>
 #include <string.h>
 
-enum { MAJORITIES = 4, NUMBERS = 7, COLUMNS = 3, CODE = 3, OFTEN = 4096, MANY_COLUMNS = 7 };
+enum { MAJORITIES = 4, NUMBERS = 7, COLUMNS = 3, CODE = 3, OFTEN = 4096, MANY_COLUMNS = 4 };
 /* Boards that are counted between two looks for an interrupt. */
 enum { PART = 128 };
 static const double ABOVE_WORDS = 18446744073709551616.0; /* 2^64 */
@@ -148,15 +148,10 @@ static SEXP indices_of(SEXP numbers, uint32_t majority, SEXP names) {
     return list;
 }
 
-static const struct board_counts *by_majority(const struct board_all_counts *all, uint32_t majority) {
-    const struct board_counts *const list[] = {&all->half, &all->seventy, &all->eighty_five, &all->quorum};
-    return list[majority];
-}
-
 /* What a call returns: the number of its refusal, or the object of the counts by a majority, or, for MAJORITIES, a
  * list of those by all of them. */
-static SEXP answer(uint8_t refusal, const struct board_counts *one, const struct board_all_counts *all,
-                   uint32_t majority, SEXP names) {
+static SEXP answer(uint8_t refusal, const struct board_counts *one, struct board_all_counts *all, uint32_t majority,
+                   SEXP names) {
     if (refusal != BOARD_DONE) return ScalarInteger(refusal);
     if (majority < MAJORITIES) {
         SEXP found = PROTECT(indices_of(PROTECT(numbers_of(one)), majority, names));
@@ -256,8 +251,7 @@ static R_xlen_t most_chairs(SEXP boards, SEXP majorities) {
 }
 
 /* Many boards: their weights and totals, some majorities, and columns for what is found: by board and majority the
- * quota, the least size and omega; by board the votes cast, the total and the coalitions; the swings by board, majority
- * and chair. */
+ * quota, the least size and omega; the swings by board, majority and chair. */
 struct many {
     SEXP boards, majorities;
     const double *totals;
@@ -267,22 +261,19 @@ struct many {
 
 /* Makes the list of the columns; the caller protects it. */
 static SEXP new_columns(struct many *many) {
-    static const char *const names[] = {"quota", "least_size", "omega", "cast", "total", "coalitions", "swings"};
+    static const char *const names[] = {"quota", "least_size", "omega", "swings"};
     R_xlen_t both = many->len * many->kinds;
-    const R_xlen_t lengths[] = {both, both, both, many->len, many->len, many->len, both * many->chairs};
     SEXP list = PROTECT(named_list(MANY_COLUMNS, names));
-    for (int at = 0; at < MANY_COLUMNS; at++) many->columns[at] = REAL(new_item(list, at, REALSXP, lengths[at]));
+    for (int at = 0; at < MANY_COLUMNS; at++)
+        many->columns[at] = REAL(new_item(list, at, REALSXP, at < MANY_COLUMNS - 1 ? both : both * many->chairs));
     UNPROTECT(1);
     return list;
 }
 
 /* Puts the counts of a board into the columns. The swings are NA for chairs that it has not. */
-static void put_counts(const struct many *many, R_xlen_t board, const struct board_all_counts *all) {
+static void put_counts(const struct many *many, R_xlen_t board, struct board_all_counts *all) {
     double *const *to = many->columns;
     R_xlen_t chairs = XLENGTH(VECTOR_ELT(many->boards, board));
-    to[3][board] = (double)all->half.cast;
-    to[4][board] = (double)all->half.total;
-    to[5][board] = (double)all->half.coalitions;
     for (R_xlen_t kind = 0; kind < many->kinds; kind++) {
         const struct board_counts *found = by_majority(all, (uint32_t)INTEGER(many->majorities)[kind]);
         R_xlen_t at = board + many->len * kind;
@@ -290,10 +281,17 @@ static void put_counts(const struct many *many, R_xlen_t board, const struct boa
         to[1][at] = (double)found->least_size;
         to[2][at] = (double)found->omega;
         for (R_xlen_t chair = 0; chair < many->chairs; chair++) {
-            double *swings = &to[6][at + many->len * many->kinds * chair];
+            double *swings = &to[3][at + many->len * many->kinds * chair];
             *swings = chair < chairs ? (double)found->rows[chair].swings : NA_REAL;
         }
     }
+}
+
+/* The majorities that are asked for, as a number with a bit for each. */
+static uint32_t asked_of(SEXP majorities) {
+    uint32_t asked = 0;
+    for (R_xlen_t at = 0; at < XLENGTH(majorities); at++) asked |= 1u << INTEGER(majorities)[at];
+    return asked;
 }
 
 /* Counts the `len` boards that begin with the board `first`. */
@@ -304,7 +302,9 @@ static void count_part(const struct many *many, R_xlen_t first, R_xlen_t len, st
         SEXP weights = VECTOR_ELT(many->boards, first + at);
         put_sheet(sheets[at], REAL(weights), XLENGTH(weights), many->totals[first + at]);
     }
-    count_sheets((const uint64_t(*)[BOARD_SHEET_WORDS])sheets, found, (size_t)len, rooms, threads);
+    struct counting counting = {(const uint64_t(*)[BOARD_SHEET_WORDS])sheets, found, (size_t)len,
+                                asked_of(many->majorities)};
+    count_sheets(&counting, rooms, threads);
     for (R_xlen_t at = 0; at < len; at++) {
         if (found[at].refusal != BOARD_DONE)
             error("board %.0f is refused: %d", (double)(first + at) + 1, found[at].refusal);
@@ -336,21 +336,52 @@ static SEXP r_many(SEXP boards, SEXP totals, SEXP majorities, SEXP processors) {
 
 /* Handles. A register is in an external pointer, whose finalizer frees it: also after an error or an interrupt. */
 
+/* The number of the command that opened each chair, or 0 for a closed one, after the first commands of a journal. */
+struct openings {
+    uint32_t commands;
+    int chairs[BOARD_CHAIRS];
+};
+
+/* A register, what was found of its chairs as it stands and as it is published, and the bytes that it counts for. R's
+ * collector doesn't see these bytes, so it is called when they are twice as many as it left. The names of its chairs
+ * are the pointer's protected value, by the commands that opened the chairs: R/chair_names.R has their form. */
+struct held {
+    struct board_register handle;
+    struct openings now, published;
+    size_t bytes;
+};
+enum { COMMAND_BYTES = 21, REGISTER_BYTES = 20000, LEAST_BOUND = 64 << 20 };
+static size_t held_bytes, bound = LEAST_BOUND;
+
+/* Counts the bytes of a register after a call that changed it. */
+static void weigh(struct board_register *handle) {
+    struct held *held = (struct held *)handle;
+    size_t bytes = REGISTER_BYTES + (size_t)board_register_accepted(handle) * COMMAND_BYTES;
+    held_bytes += bytes - held->bytes;
+    held->bytes = bytes;
+}
+
 static void finalize(SEXP pointer) {
-    struct board_register *handle = R_ExternalPtrAddr(pointer);
+    struct held *held = R_ExternalPtrAddr(pointer);
     R_ClearExternalPtr(pointer);
-    if (handle == NULL) return;
-    board_register_free(handle);
-    free(handle);
+    if (held == NULL) return;
+    held_bytes -= held->bytes;
+    board_register_free(&held->handle);
+    free(held);
 }
 
 /* The caller protects it. */
 static SEXP new_handle(struct board_register **handle) {
+    if (held_bytes > bound) {
+        R_gc();
+        bound = held_bytes > LEAST_BOUND / 2 ? 2 * held_bytes : LEAST_BOUND;
+    }
     SEXP pointer = PROTECT(R_MakeExternalPtr(NULL, install("board_register"), R_NilValue));
     R_RegisterCFinalizerEx(pointer, finalize, TRUE);
-    *handle = calloc(1, sizeof **handle);
-    if (*handle == NULL) error("out of memory");
-    R_SetExternalPtrAddr(pointer, *handle);
+    struct held *held = calloc(1, sizeof *held);
+    if (held == NULL) error("out of memory");
+    R_SetExternalPtrAddr(pointer, held);
+    *handle = &held->handle;
     UNPROTECT(1);
     return pointer;
 }
@@ -379,6 +410,7 @@ static void move_register(struct board_register *from, struct board_register *to
     board_register_free(to);
     *to = *from;
     memset(from, 0, sizeof *from);
+    weigh(to);
 }
 
 static SEXP r_start(SEXP codes, SEXP votes, SEXP journal) {
@@ -394,12 +426,48 @@ static SEXP r_start(SEXP codes, SEXP votes, SEXP journal) {
     }
     SEXP pointer = PROTECT(new_handle(&handle));
     uint8_t refusal = checked(board_register_start(entries, (size_t)len, most, handle), handle);
+    weigh(handle);
     UNPROTECT(1);
     return refusal == BOARD_DONE ? pointer : ScalarInteger(refusal);
 }
 
-/* The number of accepted commands, or minus the number of the refusal. */
-static SEXP r_apply(SEXP pointer, SEXP kind, SEXP code, SEXP chair, SEXP votes) {
+/* Goes on to the openings after the first commands of a journal. */
+static void open_to(struct board_register *handle, struct openings *it, uint32_t commands) {
+    if (it->commands > commands) memset(it, 0, sizeof *it);
+    for (; it->commands < commands; it->commands++) {
+        struct board_command found;
+        if (board_register_command_at(handle, it->commands, &found) != BOARD_DONE) error("no command");
+        if (found.kind == BOARD_OPEN) it->chairs[found.chair - 1] = (int)it->commands + 1;
+        if (found.kind == BOARD_CLOSE) it->chairs[found.chair - 1] = 0;
+    }
+}
+
+/* The number of the command that opened each chair, or 0 for a closed one. */
+static SEXP r_openings(SEXP pointer, SEXP published) {
+    struct board_register *handle = handle_of(pointer);
+    struct held *held = (struct held *)handle;
+    struct openings *it = one_flag(published) ? &held->published : &held->now;
+    open_to(handle, it, one_flag(published) ? board_register_published(handle) : board_register_accepted(handle));
+    SEXP found = PROTECT(allocVector(INTSXP, BOARD_CHAIRS));
+    memcpy(INTEGER(found), it->chairs, sizeof it->chairs);
+    UNPROTECT(1);
+    return found;
+}
+
+static SEXP r_names(SEXP pointer) {
+    handle_of(pointer);
+    return R_ExternalPtrProtected(pointer);
+}
+
+/* Sets the names of chairs, unless they are NULL. */
+static SEXP r_set_names(SEXP pointer, SEXP names) {
+    handle_of(pointer);
+    if (names != R_NilValue) R_SetExternalPtrProtected(pointer, names);
+    return R_NilValue;
+}
+
+/* The number of accepted commands, or minus the number of the refusal. Names of chairs are set with the command. */
+static SEXP r_apply(SEXP pointer, SEXP kind, SEXP code, SEXP chair, SEXP votes, SEXP names) {
     struct board_register *handle = handle_of(pointer);
     struct board_command command = {0};
     uint32_t accepted = 0;
@@ -409,6 +477,8 @@ static SEXP r_apply(SEXP pointer, SEXP kind, SEXP code, SEXP chair, SEXP votes) 
     command.chair = one_word(chair);
     command.votes = one_word(votes);
     uint8_t refusal = checked(board_register_apply(handle, &command, &accepted), handle);
+    weigh(handle);
+    if (refusal == BOARD_DONE) r_set_names(pointer, names);
     return ScalarInteger(refusal == BOARD_DONE ? (int)accepted : -(int)refusal);
 }
 
@@ -513,16 +583,23 @@ static SEXP r_copy(SEXP pointer, SEXP length) {
     uint32_t accepted = one_number(length);
     SEXP other = PROTECT(new_handle(&copy));
     uint8_t refusal = checked(board_register_copy(handle, accepted, copy), copy);
+    weigh(copy);
+    r_set_names(other, r_names(pointer));
     UNPROTECT(1);
     return refusal == BOARD_DONE ? other : ScalarInteger(refusal);
 }
 
-static SEXP r_undo(SEXP pointer, SEXP length) {
+/* Goes back to the first commands, with their names of chairs. */
+static SEXP r_undo(SEXP pointer, SEXP length, SEXP names) {
     struct board_register *handle = handle_of(pointer), copy = {0};
+    struct held *held = (struct held *)handle;
     uint32_t accepted = one_number(length);
     uint8_t refusal = checked(board_register_copy(handle, accepted, &copy), &copy);
-    if (refusal == BOARD_DONE) move_register(&copy, handle);
-    return ScalarInteger(refusal);
+    if (refusal != BOARD_DONE) return ScalarInteger(refusal);
+    move_register(&copy, handle);
+    memset(&held->now, 0, sizeof held->now);
+    memset(&held->published, 0, sizeof held->published);
+    return r_set_names(pointer, names);
 }
 
 /* Scripts. */
@@ -643,53 +720,32 @@ static SEXP run(struct script *it, uint8_t fault, struct board_register *handle,
     }
 }
 
-/* Takes a register back to its first commands, of which the first ones are published. */
-static uint8_t take_back(struct board_register *handle, uint32_t accepted, uint32_t published) {
-    struct board_register copy = {0};
-    struct board_command command;
-    uint32_t number;
-    uint8_t refusal = checked(board_register_copy(handle, published, &copy), &copy);
-    for (uint32_t at = published; at < accepted && refusal == BOARD_DONE; at++) {
-        refusal = board_register_command_at(handle, at, &command);
-        if (refusal == BOARD_DONE) refusal = checked(board_register_apply(&copy, &command, &number), &copy);
-    }
-    if (refusal == BOARD_DONE) move_register(&copy, handle);
-    board_register_free(&copy);
-    return refusal;
-}
-
-/* Carries out records, all or none. NULL if nothing is refused. R isn't called on the way, so it can't interrupt. */
-static SEXP r_submit(SEXP pointer, SEXP text) {
-    struct board_register *handle = handle_of(pointer);
-    uint32_t accepted = board_register_accepted(handle), published = board_register_published(handle);
-    struct script it = script_of(text);
-    uint8_t fault = next_piece(&it);
-    SEXP refused = PROTECT(run(&it, fault, handle, 0));
-    uint8_t refusal = BOARD_DONE;
-    if (refused != R_NilValue && handle->state != 0 &&
-        (board_register_accepted(handle) != accepted || board_register_published(handle) != published))
-        refusal = take_back(handle, accepted, published);
-    UNPROTECT(1);
-    return refusal == BOARD_DONE ? refused : refused_at(refusal, 0, 0, NA_REAL);
-}
-
-/* What would refuse records: of several, on a copy. NULL if nothing would. */
-static SEXP r_check(SEXP pointer, SEXP text) {
+/* Carries out records, all or none, or only checks them. A single one is carried out on the register itself, and more
+ * of them on a copy, which then takes its place: so no memory is needed where it stays as it is. NULL if nothing is
+ * refused. */
+static SEXP carried_out(SEXP pointer, SEXP text, int keep) {
     struct board_register *handle = handle_of(pointer), *copy;
     struct script it = script_of(text);
     uint8_t fault = next_piece(&it);
     if (fault == BOARD_DONE && it.at == it.len && it.many <= 1) {
-        uint8_t refusal = it.many ? carry_out(handle, &it.items[0], 0) : BOARD_DONE;
+        uint8_t refusal = it.many ? carry_out(handle, &it.items[0], keep) : BOARD_DONE;
+        weigh(handle);
         return refusal == BOARD_DONE ? R_NilValue : refused_item(&it, &it.items[0], refusal);
     }
     SEXP other = PROTECT(new_handle(&copy));
     uint8_t refusal = checked(board_register_copy(handle, BOARD_COMMANDS, copy), copy);
     SEXP refused = refusal == BOARD_DONE ? run(&it, fault, copy, 0) : refused_at(refusal, 0, 0, NA_REAL);
     PROTECT(refused);
+    if (keep && refused == R_NilValue) move_register(copy, handle);
     finalize(other);
     UNPROTECT(2);
     return refused;
 }
+
+static SEXP r_submit(SEXP pointer, SEXP text) { return carried_out(pointer, text, 1); }
+
+/* What would refuse records. */
+static SEXP r_check(SEXP pointer, SEXP text) { return carried_out(pointer, text, 0); }
 
 /* Reads the first piece of a script with its members. Returns a fault that isn't due to the cut, or BOARD_DONE. */
 static uint8_t first_piece(struct script *it, struct board_entry *entries, size_t *members) {
@@ -724,6 +780,7 @@ static SEXP r_from_script(SEXP text, SEXP journal) {
     SEXP pointer = PROTECT(new_handle(&handle));
     uint8_t refusal = checked(board_register_start(entries, members, most, handle), handle);
     SEXP refused = refusal == BOARD_DONE ? run(&it, fault, handle, 1) : refused_at(refusal, 0, 0, NA_REAL);
+    weigh(handle);
     UNPROTECT(1);
     return refused == R_NilValue ? pointer : refused;
 }
@@ -832,6 +889,7 @@ static SEXP r_replay(SEXP text, SEXP readers, SEXP journal) {
         SET_VECTOR_ELT(list, 2, new_handle(&it.handle));
         uint8_t refusal = checked(board_register_start(entries, members, limits[1], it.handle), it.handle);
         if (refusal == BOARD_DONE) refusal = replay_items(&it, items, many, list);
+        weigh(it.handle);
         if (refusal != BOARD_DONE) {
             UNPROTECT(1);
             return ScalarInteger(refusal);
@@ -886,11 +944,12 @@ static SEXP r_processor(void) {
 #define CALL(name, arguments) \
     { #name, (DL_FUNC)&r_##name, arguments }
 static const R_CallMethodDef CALLS[] = {
-    CALL(indices, 3),     CALL(weights, 4), CALL(members, 6), CALL(many, 4),        CALL(is_there, 1),
-    CALL(start, 3),       CALL(apply, 5),   CALL(publish, 1), CALL(counts, 4),      CALL(state, 1),
-    CALL(sheet, 1),       CALL(rows, 1),    CALL(entries, 1), CALL(commands, 1),    CALL(copy, 2),
-    CALL(undo, 2),        CALL(submit, 2),  CALL(check, 2),   CALL(from_script, 2), CALL(replay, 3),
-    CALL(replay_text, 3), CALL(words, 1),   CALL(version, 0), CALL(processor, 0),   {NULL, NULL, 0}};
+    CALL(indices, 3),     CALL(weights, 4),   CALL(members, 6),  CALL(many, 4),        CALL(is_there, 1),
+    CALL(start, 3),       CALL(apply, 6),     CALL(publish, 1),  CALL(counts, 4),      CALL(state, 1),
+    CALL(sheet, 1),       CALL(rows, 1),      CALL(entries, 1),  CALL(commands, 1),    CALL(copy, 2),
+    CALL(undo, 3),        CALL(submit, 2),    CALL(check, 2),    CALL(from_script, 2), CALL(replay, 3),
+    CALL(replay_text, 3), CALL(names, 1),     CALL(openings, 2), CALL(set_names, 2),   CALL(words, 1),
+    CALL(version, 0),     CALL(processor, 0), {NULL, NULL, 0}};
 
 void R_init_votingboard(DllInfo *library) {
     R_registerRoutines(library, NULL, CALLS, NULL, NULL);

@@ -75,6 +75,23 @@ fn memory_runs_out_while_commands_are_carried_out() {
     assert_eq!(register.accepted(), 1);
 }
 
+// Catches: a list that is half carried out when memory runs out while it is taken back.
+#[test]
+fn memory_runs_out_where_a_record_is_refused() {
+    let mut register = three();
+    let before = (register.script(), format!("{register:?}"));
+    for records in ["open,3\nopen,3\n", "open,3\npublish\nopen,4\nopen,4\n", "votes,AAA,1\nbad\n"] {
+        for number in 0..20 {
+            // SAFETY: it changes a number of this thread.
+            unsafe { faults_after(number) };
+            let why = register.submit(records).unwrap_err();
+            let failed = unsafe { faults_after(-1) } < 0;
+            assert_eq!(why.refusal() == Refusal::OutOfMemory, failed);
+            assert_eq!((register.script(), format!("{register:?}")), before);
+        }
+    }
+}
+
 #[test]
 fn memory_runs_out_in_a_replay() {
     let text = three().script() + "open,1\nread,1,half\nclose\n";
@@ -106,7 +123,7 @@ fn a_trapped_register_is_used_no_more() {
         register.check(&Command::Open { chair: 3 }),
         register.indices(Majority::Half).map(|_| ()),
         register.try_clone().map(|_| ()),
-        register.undo_to(0),
+        register.undo_to(0).map(drop),
     ];
     assert!(after.iter().all(|it| it.as_ref().unwrap_err().refusal() == Refusal::Trapped));
     assert_eq!((register.accepted(), register.members().len(), register.chairs().len()), (0, 0, 0));

@@ -7,12 +7,12 @@ use Rattle.council_core.specs.Sheets.{IsSheet}
 use Rattle.council_core.specs.Refusals.{code_of}
 use Rattle.council_core.specs.declared.refusals.Refusal.{Refusal}
 use Rattle.council_core.specs.declared.refusals.Refusal.TheVariants.{BadRecord, BadSheet, OutOfMemory, JournalFull}
-use Rattle.board_c.specs.declared.members.BoardMember.{BoardMember}
+use Rattle.board_c.specs.declared.counts.members.BoardMember.{BoardMember}
 use Rattle.board_c.specs.Counts.{IsRefusal, IsRefusedAs, IsRefusalOfWords, words_of_weights}
 use Rattle.board_c.specs.Laws.{IsRollOf, MembersLaw, RollLaw}
 use Rattle.board_c.specs.declared.TheConstants.{DONE}
 use Rattle.board_c.specs.Members.{AreRefusedAs, IsBoard, IsRefusalOfMembers, is_open_by, member_words}
-use Rattle.board_c.proofs.WorkedCases.{member}
+use Rattle.board_c.proofs.MemberCases.{member}
 
 -- chairs 1, 2 and 3 with 50, 49 and 1 votes
 abbrev three : List ℕ

@@ -7,7 +7,7 @@ use Rattle.std.proofs.lemmas.List.Sums.{sum_by-cons, sum_by-take-le}
 use Rattle.council_core.specs.declared.commands.Standing.{Standing}
 use Rattle.council_core.specs.declared.refusals.Refusal.{Refusal}
 use Rattle.council_core.specs.Rolls.{sits_in, effective_votes, votes_in}
-use Rattle.board_c.specs.declared.members.BoardMember.{BoardMember}
+use Rattle.board_c.specs.declared.counts.members.BoardMember.{BoardMember}
 use Rattle.c_values.specs.declared.counts.BoardCounts.{BoardCounts}
 use Rattle.board_c.specs.Members.{standing_of, member_total}
 use Rattle.council_core.specs.declared.limits.TheConstants.{CHAIRS}

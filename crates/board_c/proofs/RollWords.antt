@@ -13,7 +13,7 @@ use Rattle.council_core.proofs.RegisterLemmas.{weight_within}
 use Rattle.council_core.proofs.SheetOfLemmas.{cast_within}
 use Rattle.council_core.specs.declared.commands.Standing.{Standing}
 use Rattle.council_core.specs.Rolls.{RollEntry, Roll, chair_numbers, chair_word, effective_votes, is_open, total, votes_in, weight, sheet_words}
-use Rattle.board_c.specs.declared.members.BoardMember.{BoardMember}
+use Rattle.board_c.specs.declared.counts.members.BoardMember.{BoardMember}
 use Rattle.board_c.specs.Members.{IsBoard, is_open_by, member_total, member_word, member_words, standing_of}
 use Rattle.c_values.specs.Counts.{IsSheetInRange}
 use Rattle.board_c.specs.Laws.{IsRollOf, MembersLaw, RollLaw}

@@ -3,7 +3,7 @@ use Rattle.std.specs.Prelude.{◌≡◌, ℕ, List, map}
 use Rattle.std.specs.List.{All}
 use Rattle.council_core.specs.Rolls.{Roll, chair_numbers, is_open, sheet_words}
 use Rattle.board_c.specs.Members.{is_open_by, member_words, standing_of}
-use Rattle.board_c.specs.declared.members.BoardMember.{BoardMember}
+use Rattle.board_c.specs.declared.counts.members.BoardMember.{BoardMember}
 
 -- a roll whose members have the standings of these members, with any codes, and the same open
 -- chairs

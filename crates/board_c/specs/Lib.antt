@@ -1,3 +1,14 @@
 pub mod Counts
 pub mod Members
 pub mod Laws
+pub mod Handles
+pub mod Calls
+pub mod Lending
+pub mod Kinds
+pub mod Ends
+pub mod Shown
+pub mod Spans
+pub mod TextLines
+pub mod Items
+pub mod Contents
+pub mod Written

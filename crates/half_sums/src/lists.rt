@@ -3,7 +3,6 @@ ghost use Rattle.std.specs.Prelude.{◌≡◌, ◌==◌, ℕ, ◌+◌, ◌-◌, 
 ghost use Rattle.std.specs.Prelude.{slice_index_or};
 ghost use Rattle.half_sums.specs.declared.entry.Entry.{Entry};
 ghost use Rattle.half_sums.specs.Entries.{entries_from, zero_entry, IsHalf};
-ghost use Rattle.half_sums.specs.Merges.{complement_of};
 
 use crate::Entry;
 use std::marker::Model;
@@ -93,18 +92,6 @@ pub(crate) fn put(sums: &mut [u64], masks: &mut [u16], index: usize, entry: Entr
 {
     sums[index] = entry.sum;
     masks[index] = entry.mask;
-}
-
-// The complement of a set among all chairs.
-pub(crate) fn complement(all: Entry, set: Entry) -> Entry
-    requires sums { set.sum ≤ all.sum }
-    requires masks { set.mask ≤ all.mask }
-    ensures complement { result ≡ complement_of all set }
-{
-    Entry {
-        sum: all.sum - set.sum,
-        mask: all.mask - set.mask,
-    }
 }
 
 // Writes the sums of the complements of these sets in reverse order: that of the first set last.

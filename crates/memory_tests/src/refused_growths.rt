@@ -3,12 +3,13 @@
 ghost use Rattle.std.specs.Thread.{IsSync};
 
 use crate::harness::survives;
-use board_report::{Gate, GateClosed, Place, RecordingReader, serve};
+use board_serve::{Gate, GateClosed, Place, serve};
 use board_share::{Analyst, AuditFault, Reader, Writer, audit, start};
 use council_core::{ChairId, Command, MemberCode, Refusal, Register, Sheet, Votes};
 use fixtures::{THREE_PUBLICATIONS, member, open, register, seat, set_votes, two_members};
 use half_sums::{HalfSums, OrderedSums};
 use power_index::Evaluator;
+use recording_io::RecordingReader;
 use std::alloc::Global;
 use std::sync::Wait;
 use std::test::Fail;

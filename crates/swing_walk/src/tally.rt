@@ -1,10 +1,13 @@
 //! Amounts per chair, stored by the two bytes of the masks to which they belong.
-ghost use Rattle.std.specs.Prelude.{◌≡◌, ℕ, ◌+◌, ◌-◌, ◌*◌, ◌^◌, ◌<◌, slice_index};
+ghost use Rattle.std.specs.Prelude.{◌≡◌, ℕ, ◌+◌, ◌*◌, ◌^◌, ◌<◌, ◌≤◌, slice_index, take, drop};
 ghost use Rattle.std.specs.List.{sum_by};
 ghost use Rattle.std.specs.Int.{bit_at};
-ghost use Rattle.swing_walk.specs.Tables.{weighted_sum, low_weight, high_weight};
+ghost use Rattle.swing_walk.specs.Tables.{weighted_sum, low_weight};
 
 use half_sums::SLOTS;
+
+// The number of bits of a byte.
+const BITS: usize = 8;
 
 // The number of values of a byte.
 const BYTES: u16 = 256;
@@ -52,8 +55,8 @@ impl MaskTally {
         ensures marked { (slot : ℕ)
             → slot_amount slot self.new ≡ slot_amount slot self.old + slot_amount slot other.now }
     {
-        self.low = both(&self.low, &other.low);
-        self.high = both(&self.high, &other.high);
+        add_table(&mut self.low, &other.low);
+        add_table(&mut self.high, &other.high);
     }
 
     // The sum of all amounts.
@@ -74,47 +77,54 @@ impl MaskTally {
         ensures marked { (slot : ℕ) → slot < SLOTS → slice_index result slot ≡ slot_amount slot self.now }
     {
         let mut totals = [0; SLOTS];
-        for byte in 0..BYTES {
-            let at = usize::from(byte);
-            add_byte(&mut totals, byte, self.low[at], self.high[at]);
-        }
+        totals[..BITS].copy_from_slice(&by_bit(&self.low));
+        totals[BITS..].copy_from_slice(&by_bit(&self.high));
         totals
     }
 }
 
-// The amounts of both tables.
-fn both(one: &ByteTable, two: &ByteTable) -> ByteTable
-    requires room { sum_by (λ n. n) one.now + sum_by (λ n. n) two.now < 2 ^ 64 }
-    ensures total { sum_by (λ n. n) result ≡ sum_by (λ n. n) one.now + sum_by (λ n. n) two.now }
+// Adds the amounts of another table.
+fn add_table(table: &mut ByteTable, other: &ByteTable)
+    requires room { sum_by (λ n. n) table.old + sum_by (λ n. n) other.now < 2 ^ 64 }
+    ensures total { sum_by (λ n. n) table.new ≡ sum_by (λ n. n) table.old + sum_by (λ n. n) other.now }
     ensures each { (weight : ℕ → ℕ)
-        → weighted_sum weight 0 result ≡ weighted_sum weight 0 one.now + weighted_sum weight 0 two.now }
+        → weighted_sum weight 0 table.new ≡ weighted_sum weight 0 table.old + weighted_sum weight 0 other.now }
 {
-    let mut table = *one;
     for byte in 0..BYTES as usize {
-        table[byte] += two[byte];
-    }
-    table
-}
-
-// Adds the amounts of one value of a byte: `low` at its slots as a low byte, and `high` at its
-// slots as a high byte.
-fn add_byte(totals: &mut [u64; SLOTS], byte: u16, low: u64, high: u64)
-    requires byte { byte < BYTES }
-    requires room { (slot : ℕ) → slot < SLOTS → slice_index totals.old slot + low + high < 2 ^ 64 }
-    ensures more { (slot : ℕ) → slot < SLOTS
-        → slice_index totals.new slot
-        ≡ slice_index totals.old slot + (low_weight slot byte * low + high_weight slot byte * high) }
-{
-    for slot in 0..8 {
-        totals[slot] += at_bit(byte, slot, low);
-        totals[8 + slot] += at_bit(byte, slot, high);
+        table[byte] += other[byte];
     }
 }
 
-// The amount if the mask has the slot, otherwise 0.
-fn at_bit(mask: u16, slot: usize, amount: u64) -> u64
-    requires slot { slot < SLOTS }
-    ensures amount { result ≡ bit_at mask slot * amount }
+// For each bit, the sum of the amounts of the bytes that have it. The bytes with the highest bit are
+// the upper half of a table. Once this half is added to the lower one, that is a table over the bits
+// that are left.
+fn by_bit(table: &ByteTable) -> [u64; BITS]
+    requires room { sum_by (λ n. n) table.now < 2 ^ 64 }
+    ensures each { (bit : ℕ) → bit < BITS → slice_index result bit ≡ weighted_sum (low_weight bit) 0 table.now }
 {
-    if (mask >> slot) & 1 == 1 { amount } else { 0 }
+    let mut folded = *table;
+    let mut totals = [0; BITS];
+    let mut bit = BITS;
+    while bit > 0 {
+        bit -= 1;
+        totals[bit] = fold(&mut folded, 1 << bit);
+    }
+    totals
+}
+
+// Adds the second `half` amounts of a table to the first ones, and returns their sum.
+fn fold(table: &mut ByteTable, half: usize) -> u64
+    requires half { half + half ≤ BYTES }
+    requires room { sum_by (λ n. n) (take (half + half) table.old) < 2 ^ 64 }
+    ensures upper { result ≡ sum_by (λ n. n) (take half (drop half table.old)) }
+    ensures folded { (weight : ℕ → ℕ) → weighted_sum weight 0 (take half table.new)
+        ≡ weighted_sum weight 0 (take half table.old) + weighted_sum weight 0 (take half (drop half table.old)) }
+{
+    let mut total = 0;
+    for index in 0..half {
+        let amount = table[half + index];
+        total += amount;
+        table[index] += amount;
+    }
+    total
 }

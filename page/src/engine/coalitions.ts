@@ -85,6 +85,21 @@ export function vetoChairs(rule: Rule): number[] | null {
   return isWinning(rule, chairs) ? numbers(chairs.filter((it) => !isWinning(rule, without(chairs, it)))) : null;
 }
 
+/**
+ * The rule by which the smallest coalitions with a chair that block are found as if they won: all other chairs together
+ * lose, since they have less than the quota, or fewer chairs than win.
+ */
+export function blockingRule(rule: Rule, chair: number): Rule {
+  const { quota, leastSize, chairs } = rule;
+  const byVotes = { chairs, quota: votesOf(chairs) - quota + 1, leastSize: 0 };
+  if (!leastSize) return byVotes;
+  const bySize = { chairs, quota: 0, leastSize: chairs.length - leastSize + 1 };
+  const others = chairs.filter((it) => it.chair !== chair);
+  const own = votesOf(chairs) - votesOf(others);
+  const size = mostVotes(others).findIndex((it) => it >= byVotes.quota - own) + 1;
+  return size > 0 && size < bySize.leastSize ? byVotes : bySize;
+}
+
 /** How many coalitions of each size win, from 0 chairs to all. */
 export function winningBySize({ quota, leastSize, chairs }: Rule, subsets: Subsets): number[] {
   const sizes = Array.from({ length: chairs.length + 1 }, (_, size) => size);

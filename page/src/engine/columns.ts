@@ -5,7 +5,7 @@ import { inOrder, pairRows, sidesOf, type ChairRow, type Side } from "./compare"
 import type { Counted } from "./count";
 import type { Results } from "./results";
 import { stepsOf } from "./steps";
-import type { Change, View } from "../study/study";
+import type { Change, Study, View } from "../study/study";
 
 /** A register that is shown beside others, and the count that gives it. */
 export interface Column extends Side {
@@ -77,6 +77,12 @@ export function stepColumns({ study, counted }: Shown, results: Results): { list
   return { list, waiting: steps.length - list.length };
 }
 
+/** Whether a scenario has the changes of the list. */
+function isKept({ changes, scenarios }: Study): boolean {
+  const words = (all: readonly Change[]) => JSON.stringify(all.map(({ on, what, name }) => [on, what, name]));
+  return scenarios.some((it) => words(it.changes) === words(changes));
+}
+
 /** The columns that a view asks for; the list of changes as a whole if there are no others. */
 function shownColumns(app: App, shown: Shown): { list: Column[]; waiting: number; isOne: boolean } {
   const changed = changedColumn(shown);
@@ -88,7 +94,8 @@ function shownColumns(app: App, shown: Shown): { list: Column[]; waiting: number
   }
   const { list, waiting } = scenarioColumns(shown, app.results);
   if (!list.length) return one;
-  return { list: shown.counted.isChanged ? [...list, changed] : list, waiting, isOne: false };
+  const isNew = shown.counted.isChanged && !isKept(shown.study);
+  return { list: isNew ? [...list, changed] : list, waiting, isOne: false };
 }
 
 /** What each column is compared with. */

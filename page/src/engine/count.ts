@@ -77,6 +77,11 @@ function admitted(changes: readonly Change[], outcomes: ReadonlyMap<number, Outc
   return Object.fromEntries(named);
 }
 
+/** The names of chairs that changes open, by the changes' numbers. */
+function namedBy(changes: readonly Change[]): Record<number, string> {
+  return Object.fromEntries(changes.flatMap(({ id, chairName }) => (chairName ? [[id, chairName]] : [])));
+}
+
 /** The registers, to which each base is sent once. */
 export class Counter {
   readonly boards: Boards;
@@ -128,7 +133,7 @@ export class Counter {
       readings(after),
       outcomes,
       new Standing(opening, base),
-      new Standing(standing, base, admitted(changes, outcomes)),
+      new Standing(standing, base, admitted(changes, outcomes), namedBy(changes)),
     );
   }
 

@@ -13,7 +13,7 @@ import { loadSync } from "../../../bindings/javascript/src/load";
 import { plainCount } from "./plain";
 import { readingOf, readingsOf, type Reading } from "./reading";
 import type { Seat, Snapshot } from "./standing";
-import type { Command } from "../study/study";
+import type { Change, Command } from "../study/study";
 import { sweptPart } from "./sweep";
 import { turnsOf } from "./turns";
 import { MAJORITIES, type Majority } from "../study/words";
@@ -41,11 +41,11 @@ interface Changed extends Kept {
   changed: Register;
 }
 
-/** The members and the open chairs of a register. `opened` are chairs that changes opened. */
-function snapshotOf(register: Register, opened: ReadonlySet<number> = new Set()): Snapshot {
+/** The members and the open chairs of a register. `opened` has the chairs that changes opened, with their numbers. */
+function snapshotOf(register: Register, opened: ReadonlyMap<number, number> = new Map()): Snapshot {
   const seats = Object.entries(register.members).map(([code, it]): Seat => ({ code, ...it }));
   const open = Object.keys(register.chairs).map(Number);
-  return { seats, open, opened: open.filter((it) => opened.has(it)) };
+  return { seats, open, opened: Object.fromEntries([...opened].filter(([chair]) => open.includes(chair))) };
 }
 
 /** The replay of a script that ends in no fault. */
@@ -136,7 +136,7 @@ export class Engine {
       before: majorities.flatMap((it) => readings.get(it) ?? []),
       after: readingsOf(changed, majorities),
       opening: snapshotOf(register),
-      standing: snapshotOf(changed, openedBy(outcomes)),
+      standing: snapshotOf(changed, openedBy(board.changes, outcomes)),
       outcomes: new Map(board.changes.map((it, at) => [it.id, outcomes[at] ?? OFF])),
       commands: outcomes.flatMap((it) => ("commands" in it ? it.commands : [])),
     };
@@ -177,10 +177,14 @@ function isGivenBy(script: string, readings: readonly Reading[]): boolean {
   return found.length === readings.length && found.every((it, at) => text(it) === text(readings[at] ?? it));
 }
 
-/** The chairs that accepted commands opened. */
-function openedBy(outcomes: readonly Outcome[]): Set<number> {
-  const commands = outcomes.flatMap((it) => (it.kind === "accepted" ? it.commands : []));
-  return new Set(commands.filter((it) => it.kind === "open").map((it) => Number(it.chair)));
+/** The chairs that accepted changes opened, each with the number of the last of them. */
+function openedBy(changes: readonly Change[], outcomes: readonly Outcome[]): Map<number, number> {
+  const opens = changes.flatMap(({ id }, at) => {
+    const outcome = outcomes[at];
+    const commands = outcome?.kind === "accepted" ? outcome.commands : [];
+    return commands.flatMap(({ kind, chair }): [number, number][] => (kind === "open" ? [[Number(chair), id]] : []));
+  });
+  return new Map(opens);
 }
 
 /** What a function gives of a register, which is freed after it. */

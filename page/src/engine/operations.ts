@@ -1,13 +1,17 @@
 /** Changes as commands of the register, worked out when they are carried out: all of a change's commands, or none. */
 import { Refused } from "../../../bindings/javascript/src/refused";
 import type { Register } from "../../../bindings/javascript/src/register";
-import { steppedVotes, votesAsked, votesCommand } from "./amount";
+import { MEMBER_VOTES } from "../../../bindings/javascript/src/names";
+import { shareVotes, steppedVotes, totalOf, votesAsked, votesCommand } from "./amount";
 import type { Outcome, Refusal } from "./orders";
 import { closedChair, type Seat } from "./standing";
 import {
-  isOperation, type Change, type Command, type Dissolve, type Merge, type Scale, type Split, type What,
+  isOperation, type Change, type Command, type Dissolve, type Join, type Merge, type Scale, type Share, type Split,
+  type What,
 } from "../study/study";
+import { decimalRatio, nearest, reduced, sum, type Ratio } from "../study/fractions";
 import { MOST_CHAIRS } from "../study/words";
+import { sharedOut, type Voter } from "./target";
 
 export const OFF: Outcome = { kind: "off" };
 
@@ -54,6 +58,64 @@ function scaled(register: Register, { of, percent }: Scale): Commands {
   return commands;
 }
 
+/** The votes of some members of a register, in order; a text says which of them isn't there or is suspended. */
+function votersOf(register: Register, codes: readonly string[]): Voter[] | string {
+  const { members } = register;
+  const missing = codes.find((it) => !members[it]);
+  if (missing) return `no member has the code ${missing}`;
+  const suspended = codes.find((it) => members[it]?.suspended);
+  if (suspended) return `${suspended} is suspended, so it has no share of the total voting power`;
+  return codes.map((code) => ({ code, votes: members[code]?.votes ?? 0 }));
+}
+
+const sumOf = (voters: readonly Voter[]): number => voters.reduce((sum, it) => sum + it.votes, 0);
+
+/** The share that is asked for: per cent of the total, or points more than the members have of it. */
+function shareAsked(percent: string, own: number, total: number): Ratio {
+  const size = decimalRatio(percent.replace(/^[+-]/, ""));
+  if (!/^[+-]/.test(percent)) return size;
+  const now = { numerator: 100n * BigInt(own), denominator: BigInt(total) };
+  const step = { ...size, numerator: percent.startsWith("-") ? -size.numerator : size.numerator };
+  return sum([now, step]);
+}
+
+/** Votes for members, as commands; those that keep their votes have none. */
+function given(votes: number, voters: readonly Voter[]): Commands {
+  const parts = sharedOut(votes, voters);
+  const high = parts.find((it) => (it.votes ?? 0) > MEMBER_VOTES);
+  if (high) return `${high.code}: ${high.votes} votes, which is not from 0 to 2^40`;
+  return parts.filter((it, at) => it.votes !== voters[at]?.votes);
+}
+
+/** Members get a share of the total; what they gain is added to it, or taken from all others in proportion. */
+function shared(register: Register, { codes, percent, others }: Share): Commands {
+  const own = votersOf(register, codes);
+  if (typeof own === "string") return own;
+  if (sumOf(own) === 0) return "these members have no votes, so no proportions to keep";
+  const total = totalOf(register);
+  const asked = shareAsked(percent, sumOf(own), total);
+  const words = `no number of votes is ${percent} ${/^[+-]/.test(percent) ? "points more" : "per cent"} of the total`;
+  if (asked.numerator < 0n || asked.numerator >= 100n * asked.denominator) return words;
+  const exact = others === "keep" ? shareVotes(asked, total - sumOf(own))
+    : reduced(asked.numerator * BigInt(total), 100n * asked.denominator);
+  if (!exact) return words;
+  const votes = Number(nearest(exact));
+  const gets = given(votes, own);
+  if (others === "keep" || typeof gets === "string") return gets;
+  const rest = Object.entries(register.members).flatMap(([code, it]) =>
+    it.suspended || codes.includes(code) ? [] : [{ code, votes: it.votes }]);
+  if (sumOf(rest) === 0) return "the others have no votes to pay with";
+  const pays = given(total - votes, rest);
+  return typeof pays === "string" ? pays : [...gets, ...pays];
+}
+
+/** Members move to a chair or to none, except those that are there. */
+function joined({ members }: Register, { codes, to }: Join): Commands {
+  const moving = codes.filter((code) => members[code]?.chair !== to);
+  if (!moving.length) return to === null ? "these members are in no chair" : `these members are in chair ${to} already`;
+  return moving.map((code) => ({ kind: "move", code, chair: to }));
+}
+
 function commandsOf(register: Register, what: What): Commands {
   switch (what.kind) {
     case "merge":
@@ -63,6 +125,10 @@ function commandsOf(register: Register, what: What): Commands {
       return splitOff(register, what);
     case "scale":
       return scaled(register, what);
+    case "share":
+      return shared(register, what);
+    case "join":
+      return joined(register, what);
     case "percent": {
       const command = votesAsked(register, what);
       return typeof command === "string" ? command : [command];

@@ -16,8 +16,8 @@ export interface Seat {
 export interface Snapshot {
   readonly seats: readonly Seat[];
   readonly open: readonly number[];
-  /** Those of them that changes opened. */
-  readonly opened: readonly number[];
+  /** Those of them that changes opened, each with the number of the change that opened it last. */
+  readonly opened: Readonly<Record<number, number>>;
 }
 
 /** A member with its name, and its row in the table, which is 0 for one that is in none. */
@@ -35,6 +35,7 @@ export class Standing {
     readonly snapshot: Snapshot,
     private readonly base: Base,
     private readonly admitted: Readonly<Record<string, string>> = {},
+    private readonly named: Readonly<Record<number, string>> = {},
   ) {
     const places = snapshot.seats.map((it) => ({
       ...it,
@@ -70,12 +71,23 @@ export class Standing {
 
   /** Whether a chair was opened by a change, so that it isn't the base's chair of this number. */
   isNew(chair: number): boolean {
-    return this.snapshot.opened.includes(chair);
+    return this.opening(chair) !== undefined;
+  }
+
+  /** The number of the change that opened a chair, if one did. */
+  opening(chair: number): number | undefined {
+    return this.snapshot.opened[chair];
+  }
+
+  /** The name that was given to a chair: it belongs to the change that opened it, or to the base's chair. */
+  given(chair: number): string | undefined {
+    const [opening, { chairNames }] = [this.opening(chair), this.base];
+    return opening === undefined ? chairNames[chair] : this.named[opening] ?? chairNames[chairKey(chair, true)];
   }
 
   /** A chair's name: the one that was given, else its member with the most votes and how many others there are. */
   name(chair: number): string {
-    const given = this.base.chairNames[chairKey(chair, this.isNew(chair))];
+    const given = this.given(chair);
     if (given) return given;
     const seated = this.in(chair);
     const [first] = [...seated].sort((left, right) => right.votes - left.votes);
@@ -94,7 +106,8 @@ export function chairChoices(standing: Standing): [string, string][] {
   return standing.open().map((it) => [String(it), `${it} ${isolated(standing.name(it))}`]);
 }
 
-/** The key of a chair's name in a base: that of the base's chair, or that of one that was opened by a change. */
+/** The key of a chair in comparisons: that of the base's chair, or that of one that was opened by a change. Studies of
+ * version 0.11 have by it the names of chairs that changes opened. */
 export function chairKey(chair: number, isNew: boolean): string {
   return isNew ? `new ${chair}` : String(chair);
 }

@@ -16,8 +16,12 @@ export function valuesOf({ from, to, by }: SweepAsked): string[] {
   const places = Math.max(0, ...[from, to, by].map((it) => it.split(".")[1]?.length ?? 0));
   const units = (text: string) => nearest(decimalRatio(text), 10n ** BigInt(places));
   const [first, last, step] = [units(from), units(to), units(by)];
-  if (step <= 0n || last <= first || (last - first) % step !== 0n) {
-    throw new BadSweep("whole steps lead from the first value to the last, which is greater");
+  if (step <= 0n) throw new BadSweep("the step is 0");
+  if (last <= first) throw new BadSweep(`the last value, ${to}, isn't greater than the first one, ${from}`);
+  const over = (last - first) % step;
+  if (over !== 0n) {
+    const near = [last - over, last - over + step].map((it) => plain(it, places));
+    throw new BadSweep(`steps of ${by} from ${from} lead to ${near[0]} and ${near[1]}, not to ${to}`);
   }
   const count = (last - first) / step + 1n;
   if (count > BigInt(MOST_POINTS)) throw new BadSweep(`that is ${count} points, where ${MOST_POINTS} are the most`);

@@ -7,7 +7,7 @@ import type { Command, Who } from "../study/study";
 export class BadSweep extends Error {}
 
 /** A member whose votes are varied. */
-interface Voter {
+export interface Voter {
   readonly code: string;
   readonly votes: number;
 }

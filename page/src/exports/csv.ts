@@ -30,9 +30,18 @@ export interface Labelled extends Compared {
   readonly previous?: Compared;
 }
 
+/** Where a cell would begin like a formula if a comma, a semicolon or a tab separates cells. Numbers may follow. */
+const INSIDE = /([,;\t]\s*)(?=["=+\-@＝＋－＠])(?![+-][0-9.,]+ ?%?(?:[,;\t'"\s]|$))/g;
+
+/** A text in which no cell is a formula, whichever of comma, semicolon and tab separates cells. */
+export function plainLine(text: string): string {
+  return text.replace(INSIDE, "$1'");
+}
+
 /** A cell that no spreadsheet takes for a formula. */
 export function plainCell(cell: string): string {
-  return /^[=+\-@\t\r]/.test(cell) && !/^[+-]?[0-9.,]+$/.test(cell) ? `'${cell}` : cell;
+  const text = plainLine(cell);
+  return /^[=+\-@\t\r＝＋－＠]/.test(text) && !/^[+-]?[0-9.,]+$/.test(text) ? `'${text}` : text;
 }
 
 /** A cell: a text, a whole number, a fraction, or nothing. */
@@ -40,7 +49,7 @@ export type Cell = string | number | bigint | Ratio | null;
 
 function quoted(cell: string): string {
   const plain = plainCell(cell);
-  return /[",#\r\n]/.test(plain) ? `"${plain.replace(/"/g, '""')}"` : plain;
+  return /[",;#\t\r\n]/.test(plain) ? `"${plain.replace(/"/g, '""')}"` : plain;
 }
 
 function fractionsOf(reading: Reading, chair: ChairReading): (Ratio | null)[] {

@@ -2,7 +2,7 @@
 import type { App, Shown } from "../views/app";
 import { chairCells, shownCell, type Cell, type ChairTable } from "./chairCells";
 import { columnsOf, type Columns } from "../engine/columns";
-import { csvOf, plainCell, tableOf, type Cell as CsvCell } from "./csv";
+import { csvOf, plainCell, plainLine, tableOf, type Cell as CsvCell } from "./csv";
 import { textFile } from "./exportFile";
 import { fractionText, rounded } from "../study/fractions";
 import { firstLines, provenanceOf, type Source } from "../study/provenance";
@@ -15,7 +15,7 @@ import { workbookOf, type Sheet, type Value } from "./workbook";
 export async function csvFile(app: App): Promise<Blob> {
   const shown = await app.whole();
   const { all, sources } = registers(app, shown);
-  const head = firstLines(await provenanceOf(app, shown, sources)).map((it) => `# ${it}\n`).join("");
+  const head = firstLines(await provenanceOf(app, shown, sources)).map((it) => `# ${plainLine(it)}\n`).join("");
   return textFile(head + csvOf(all), "text/csv");
 }
 

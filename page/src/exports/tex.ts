@@ -18,6 +18,11 @@ export function texText(text: string): string {
   return text.replace(/[\\~^<>|`"]|[&%$#_{}]/g, (it) => MARKS[it] ?? `\\${it}`);
 }
 
+/** A text for BibTeX, where a brace counts even after a backslash. */
+export function bibText(text: string): string {
+  return texText(text).replace(/\\\{/g, "\\textbraceleft{}").replace(/\\\}/g, "\\textbraceright{}");
+}
+
 /** A name for LaTeX, on one line. One with letters from right to left is the argument of a command. */
 function texName(name: string): string {
   const plain = texText(withoutControls(name).replace(/[\s\u0000-\u001f\u007f]+/g, " ").trim());

@@ -1,6 +1,7 @@
 /** Names that are edited: of a member and of a chair. */
 import type { Typed } from "./amounts";
 import type { Change, Study } from "./study";
+import { chairKey } from "../engine/standing";
 
 /** The most characters of a name. */
 export const LONGEST_NAME = 200;
@@ -32,8 +33,18 @@ export function withMemberName(study: Study, code: string, name: string): Study 
   return { ...study, base: { ...study.base, names }, changes: without(study.changes), scenarios };
 }
 
-/** The study with another name of a chair, by its key. Without a name the chair is named after its largest member. */
-export function withChairName(study: Study, key: string, name: string): Study {
-  const chairNames = withName(study.base.chairNames, key, name);
-  return { ...study, base: { ...study.base, chairNames } };
+/** A change with another name of the chair that it opens, or none. */
+function opening(change: Change, chairName: string): Change {
+  const { chairName: _, ...rest } = change;
+  return chairName ? { ...rest, chairName } : rest;
+}
+
+/** The study with another name of a chair: of the one that a change opened, by the change's number, or of the base's
+ * chair. Without a name the chair is named after its largest member. */
+export function withChairName(study: Study, chair: number, by: number | undefined, name: string): Study {
+  const key = chairKey(chair, by !== undefined);
+  const chairNames = withName(study.base.chairNames, key, by === undefined ? name : "");
+  const named = (changes: readonly Change[]) => changes.map((it) => (it.id === by ? opening(it, name) : it));
+  const scenarios = study.scenarios.map((it) => ({ ...it, changes: named(it.changes) }));
+  return { ...study, base: { ...study.base, chairNames }, changes: named(study.changes), scenarios };
 }

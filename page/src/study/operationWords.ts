@@ -31,6 +31,12 @@ function votesWords({ commands, before }: Done, names: Standing): string[] {
   });
 }
 
+/** The members that get a share, with old and new votes. */
+function ownVotes(codes: readonly string[], done: Done, names: Standing): string {
+  const words = votesWords(done, names).filter((_, at) => codes.includes(done.before[at]?.code ?? ""));
+  return words.length ? listed(words) : "they have it already";
+}
+
 /** The chair that all members left, in words, or nothing if they left several. */
 function splitFrom(before: readonly Seat[]): string {
   const chairs = [...new Set(before.map((it) => it.chair))];
@@ -59,6 +65,17 @@ export function operationWords(what: Operation, outcome: Outcome | undefined, na
       const target = chair === "" ? "a new chair" : `new chair ${chair}`;
       return `${splitFrom(done?.before ?? [])}${listed(what.codes.map(who(names)))} → ${target}`;
     }
+    case "share": {
+      const isMore = /^[+-]/.test(what.percent);
+      const share = `${what.percent} ${isMore ? "percentage points" : "%"} of the total`;
+      const members = done ? counted(what.codes.length, "member") : listed(what.codes.map(who(names)));
+      const pays = what.others === "pay" ? "the others pay in proportion" : "the others keep their votes";
+      return `${members}: ${share}, ${pays}${done ? ` (${ownVotes(what.codes, done, names)})` : ""}`;
+    }
+    case "join": {
+      const target = what.to === null ? "no chair" : `chair ${what.to}`;
+      return `${listed(what.codes.map(who(names)))} → ${target}`;
+    }
     case "scale": {
       const votes = `votes ${what.percent} %${done ? ` (${listed(votesWords(done, names))})` : ""}`;
       return `${scaledWords(what.of, done !== null, names)}: ${votes}`;
@@ -70,5 +87,6 @@ export function operationWords(what: Operation, outcome: Outcome | undefined, na
 export function operationDetails(what: Operation, outcome: Outcome | undefined, names: Standing): string {
   const done = doneOf(outcome);
   if (!done) return "";
-  return (what.kind === "scale" ? votesWords(done, names) : done.before.map(({ code }) => who(names)(code))).join("; ");
+  const changesVotes = what.kind === "scale" || what.kind === "share";
+  return (changesVotes ? votesWords(done, names) : done.before.map(({ code }) => who(names)(code))).join("; ");
 }

@@ -1,7 +1,8 @@
 /** The provenance of figures: version, and the hashes of sources, module, table, scripts and lines. */
 import type { App, Shown } from "../views/app";
 import { hashOf, MODULE_HASH, RELEASED, SOURCES_HASH, VERSION } from "./made";
-import { texText } from "../exports/tex";
+import { bibText } from "../exports/tex";
+import { withoutControls } from "./names";
 
 /** A script, and what it gives the readings of. */
 export interface Source {
@@ -61,22 +62,31 @@ function oneLine(text: string): string {
 /** The author, as in CITATION.cff. */
 const AUTHOR = "The board project";
 
-/** How to cite: a text, and an entry of BibTeX, with the version's date. */
-export async function citation(app: App, shown: Shown): Promise<{ text: string; bibtex: string }> {
-  const { counted, module, table, scripts, check } = await provenanceOf(app, shown, [studySource(shown)]);
-  const sources = [module, table, ...scripts].join("; ");
-  const title = `${AUTHOR}. board ${VERSION} (${RELEASED}): a proved register of voting power`;
-  const text = `${title}. Numbers ${counted}; ${sources}.`;
-  const note = `Sources ${SOURCES_HASH}; ${sources}; ${check}`;
+/** How to cite: the sentence that a journal prints, and an entry of plain BibTeX. */
+export interface Citation {
+  readonly text: string;
+  readonly bibtex: string;
+}
+
+/** The citation of numbers from a study's script, by its hash. An exported file has the other hashes. */
+export function citationOf(name: string, hash: string): Citation {
+  const [year, title] = [RELEASED.slice(0, 4), "board: a proved register of voting power"];
+  const study = withoutControls(oneLine(name)).trim();
   const bibtex = [
-    "@software{board,",
+    "@misc{board,",
     `  author = {{${AUTHOR}}},`,
-    "  title = {board: a proved register of voting power},",
-    `  version = {${VERSION}},`,
-    `  date = {${RELEASED}},`,
-    `  year = {${RELEASED.slice(0, 4)}},`,
-    `  note = {${texText(note)}},`,
+    `  title = {{${title}}},`,
+    `  year = {${year}},`,
+    `  howpublished = {Computer program, version ${VERSION} of ${RELEASED}},`,
+    `  note = {Numbers for ${bibText(study)}: script with SHA-256 ${hash}},`,
     "}",
   ];
+  const text = `${AUTHOR} (${year}). ${title}, version ${VERSION} of ${RELEASED}. Computer program. Numbers for ` +
+    `${study}: script with SHA-256 ${hash}.`;
   return { text, bibtex: bibtex.join("\n") };
+}
+
+/** How to cite what is shown. */
+export async function citation({ study, counted }: Shown): Promise<Citation> {
+  return citationOf(study.name, await hashOf(counted.script));
 }

@@ -46,14 +46,30 @@ export interface Scale {
   readonly percent: string;
 }
 
+/** Members get a share of the total voting power together, in the proportions of their votes: `20` per cent of it, or
+ * `+6` points more than they have. The others keep their votes, or pay: the total stays. */
+export interface Share {
+  readonly kind: "share";
+  readonly codes: readonly string[];
+  readonly percent: string;
+  readonly others: "keep" | "pay";
+}
+
+/** Members move to an open chair, or with null to none; those that are there already stay. */
+export interface Join {
+  readonly kind: "join";
+  readonly codes: readonly string[];
+  readonly to: number | null;
+}
+
 /** An operation is carried out as several commands: all of them or none. */
-export type Operation = Merge | Dissolve | Split | Scale;
+export type Operation = Merge | Dissolve | Split | Scale | Share | Join;
 
 /** What a change does. */
 export type What = Command | Percentage | Operation;
 
 /** The kinds of operations. */
-export const OPERATIONS = ["merge", "dissolve", "split", "scale"] as const;
+export const OPERATIONS = ["merge", "dissolve", "split", "scale", "share", "join"] as const;
 
 export function isOperation(what: What): what is Operation {
   return OPERATIONS.some((it) => it === what.kind);
@@ -66,6 +82,8 @@ export interface Change {
   readonly what: What;
   /** The name of a member that is admitted. */
   readonly name?: string;
+  /** The name of the chair that it opens. */
+  readonly chairName?: string;
 }
 
 /** A named list of changes. */

@@ -10,19 +10,21 @@ import { CHAIRS, MAJORITIES, MEASURES } from "./words";
 export interface StudyData {
   readonly study: Study;
   readonly view: View;
+  /** The hash of the script that the study had when it was saved; empty if the data names none. */
+  readonly scriptHash?: string;
 }
 
 const [FORMAT, FIRST_FORMAT] = ["board study 2", "board study 1"];
 const MOST_DIGITS = 10;
 
 /** The data as a text that is safe in a page. */
-export function dataText(data: StudyData, provenance: readonly string[]): string {
-  return JSON.stringify({ format: FORMAT, provenance, ...data }, null, 1).replace(/</g, "\\u003c");
+export function dataText({ study, view }: StudyData, provenance: readonly string[]): string {
+  return JSON.stringify({ format: FORMAT, provenance, study, view }, null, 1).replace(/</g, "\\u003c");
 }
 
 /** Whether a text is a study as data. */
 export function isData(text: string): boolean {
-  return /^\ufeff?\s*\{\s*"format": "board study/.test(text);
+  return /^\ufeff?\s*\{/.test(text) && /"format"\s*:\s*"board study/.test(text);
 }
 
 type Fields = Readonly<Record<string, unknown>>;
@@ -107,6 +109,12 @@ function operation(kind: Operation["kind"], found: Fields): Operation {
       return { kind, codes: codes(found["codes"]), to: to === "lowest" ? to : chair(to) };
     case "scale":
       return { kind, of: typeof of === "number" ? chair(of) : codes(of), percent: percentOf(found["percent"], true) };
+    case "share": {
+      const others = oneOf(["keep", "pay"] as const, found["others"], "who pays for a share");
+      return { kind, codes: codes(found["codes"]), percent: decimal(found["percent"], "a share"), others };
+    }
+    case "join":
+      return { kind, codes: codes(found["codes"]), to: to === null ? null : chair(to) };
   }
 }
 
@@ -119,8 +127,9 @@ function what(value: unknown): What {
 
 function change(value: unknown): Change {
   const found = fields(value, "a change");
-  const name = found["name"] === undefined ? {} : { name: text(found["name"], "a name") };
-  return { id: whole(found["id"], "a change"), on: found["on"] === true, what: what(found["what"]), ...name };
+  const named = (["name", "chairName"] as const).filter((it) => found[it] !== undefined);
+  const names = Object.fromEntries(named.map((it) => [it, text(found[it], "a name")]));
+  return { id: whole(found["id"], "a change"), on: found["on"] === true, what: what(found["what"]), ...names };
 }
 
 type Read<Value> = (value: unknown, name: string) => Value;
@@ -163,13 +172,25 @@ function sweep(value: unknown): SweepAsked | null {
   };
 }
 
+/** Changes with numbers of their own, whatever the data says. */
+function numbered(changes: readonly Change[], first: number): Change[] {
+  return changes.map((it, at) => ({ ...it, id: first + at }));
+}
+
 function study(value: unknown): Study {
   const found = fields(value, "a study");
+  const changes = numbered(list(found["changes"], "changes").map(change), 1);
+  let next = changes.length + 1;
+  const scenarios = list(found["scenarios"], "scenarios").map(scenario).map((it) => {
+    const own = numbered(it.changes, next);
+    next += own.length;
+    return { ...it, changes: own };
+  });
   return {
     name: text(found["name"], "a name"),
     base: base(found["base"]),
-    changes: list(found["changes"], "changes").map(change),
-    scenarios: list(found["scenarios"], "scenarios").map(scenario),
+    changes,
+    scenarios,
     published: found["published"] === null ? null : whole(found["published"], "a total"),
     sweep: sweep(found["sweep"]),
   };
@@ -221,12 +242,29 @@ function fromFirst(data: Fields): Fields {
   return { ...data, study: { ...old, base, changes: changed(old["changes"]), scenarios } };
 }
 
+/** The value of JSON. */
+function parsed(json: string): unknown {
+  try {
+    return JSON.parse(json.replace(/^\ufeff/, ""));
+  } catch (why) {
+    const end = /[}\]]\s*$/.test(json) ? "its text was changed" : "it breaks off before its end";
+    throw new NotAStudy(`the file of the study isn't whole: ${end} (${why instanceof Error ? why.message : why})`);
+  }
+}
+
+/** The hash of the script, as the page's lines of provenance name it. That of board-study is of another script. */
+function scriptHash(provenance: unknown): string {
+  const lines = Array.isArray(provenance) ? provenance.filter((it) => typeof it === "string") : [];
+  if (!lines.some((it) => it.startsWith("module board.wasm"))) return "";
+  return lines.map((it) => /^script sha256 ([0-9a-f]{64})$/.exec(it)?.[1] ?? "").find((it) => it !== "") ?? "";
+}
+
 /** The study in a text of data, or null if it has none. Throws if it isn't a study. */
 export function readData(json: string): StudyData | null {
-  const found: unknown = JSON.parse(json.replace(/^\ufeff/, ""));
+  const found = parsed(json);
   if (found === null) return null;
   const given = fields(found, "its data");
   const data = given["format"] === FIRST_FORMAT ? fromFirst(given) : given;
   must([FORMAT, FIRST_FORMAT].includes(text(data["format"], "its format")), "its format");
-  return { study: study(data["study"]), view: view(data["view"]) };
+  return { study: study(data["study"]), view: view(data["view"]), scriptHash: scriptHash(given["provenance"]) };
 }

@@ -11,7 +11,7 @@ export async function baseOf(counter: Counter, table: TableBase, hash: string): 
     script: await counter.tableScript(rows),
     names: Object.fromEntries(members.map((it) => [it.code, it.name])),
     chairNames,
-    rows: Object.fromEntries(members.map((it) => [it.code, it.row])),
+    rows: Object.fromEntries(members.filter(({ row }) => row > 0).map((it) => [it.code, it.row])),
     choices,
     hash,
     columns,

@@ -48,9 +48,14 @@ export function zipWords(names: readonly string[]): string {
   return "This is a zip file without a workbook in it. Unpack it, and open the table in it.";
 }
 
+/** More letters before and behind a letter aren't its word's. */
+const MOST_WORD = 30;
+
 /** Says how a text was read, and its first word that has a letter beyond ASCII. */
 function encodingWords(encoding: string, text: string): string {
-  const word = /[^\s,;]*(?![A-Za-z])\p{L}[^\s,;]*/u.exec(text)?.[0];
+  const at = text.search(/(?![A-Za-z])\p{L}/u);
+  const before = text.slice(Math.max(0, at - MOST_WORD), Math.max(0, at)).split(/[\s,;]/).pop() ?? "";
+  const word = at < 0 ? undefined : before + (/^[^\s,;]*/.exec(text.slice(at, at + MOST_WORD))?.[0] ?? "");
   const look = word ? `: look at letters with accents, such as those of '${word}'` : "";
   return `The table was read as ${encoding}${look}`;
 }

@@ -11,11 +11,15 @@ export interface Seated {
   readonly seats: ReadonlyMap<number, string>;
   /** Rows whose second name is an alternate's. */
   readonly alternates: readonly number[];
+  /** Rows below all those that a printed total proves to be of their chair. */
+  readonly beyond: ReadonlySet<number>;
+  /** Rows without a chair about which a question was answered. */
+  readonly answered: ReadonlySet<number>;
   readonly notices: readonly string[];
 }
 
-const NONE = /^(none|no chair|-+|\u2013|\u2014|n\.?\/?a\.?|nil)$/i;
-const CONTINUED = /\s*\((continued|cont\.?|cont'd|cont\u2019d)\)$/i;
+const NONE = /^(none|no chair|\(?suspended\)?|-+|\u2013|\u2014|n\.?\/?a\.?|nil)$/i;
+const CONTINUED = /\((continued|cont\.?|cont'd|cont\u2019d)\)$/i;
 
 /** Whether a chair's cell says that there is none. */
 export function isNone(cell: string): boolean {
@@ -33,7 +37,7 @@ export function keyOf(cell: string): string {
 }
 
 function chairOf(line: Line): string {
-  return (line.role === "heading" ? line.heading : line.cells.chair).replace(CONTINUED, "");
+  return (line.role === "heading" ? line.heading : line.cells.chair).replace(CONTINUED, "").trimEnd();
 }
 
 function isSeatLine({ role }: Line): boolean {
@@ -168,7 +172,12 @@ function alternatesOf(
   const runs = runsOf(lines);
   const empty = runs.flatMap((run) => run.slice(1).filter((line) => isEmptyHeading(lines, line)));
   const isProved = ({ row }: Line) => blocks.has(row);
-  const proved = named.filter((line) => isProved(line) && blocks.get(line.row)?.rows[0] !== line.row);
+  const firstOf = (line: Line) => named.find(({ row }) => row === blocks.get(line.row)?.rows[0]);
+  const proved = named.filter((line) => {
+    const first = firstOf(line);
+    // A merged cell that is filled down has the chair's own name in each row.
+    return isProved(line) && first !== line && (!first || keyOf(chairOf(first)) !== keyOf(chairOf(line)));
+  });
   const open = runs.flatMap((run) => openParts(run, isProved, empty));
   const isShown = head !== "named" && runs.some((run) => hasOneName(lines, run));
   return [...empty, ...proved, ...(isShown ? [] : askRuns(questions, open))];
@@ -258,6 +267,15 @@ function placesOf(lines: readonly Line[], blocks: ReadonlyMap<number, Block>, al
   return places;
 }
 
+/** The rows that would be filled down though the printed total of the chair above is that of the rows before them. */
+function rowsBeyond(places: readonly Place[], blocks: ReadonlyMap<number, Block>): number[] {
+  let block: Block | undefined;
+  return places.flatMap(({ line, why }) => {
+    if (why === "cell") block = blocks.get(line.row);
+    return why === "blank" && block && block.rows.length > 0 && !block.rows.includes(line.row) ? [line.row] : [];
+  });
+}
+
 /** Says what was taken from headings and from printed totals without a question. */
 function placeNotices(places: readonly Place[], alternates: readonly Line[]): string[] {
   const rows = (why: Place["why"]) => places.filter((it) => it.why === why && it.above).map(({ line }) => line.row);
@@ -283,8 +301,11 @@ export function seated(
   const proofs = head === "named" ? new Map([...ofColumn, ...withGaps(lines, totalBlocks)]) : ofColumn;
   const alternates = alternatesOf(lines, proofs, head, questions);
   const places = placesOf(lines, blocks, new Set(alternates));
-  const blanks = places.filter(({ why, above }) => why === "blank" && above !== "").map(({ line }) => line);
-  const fills = mayBeMerged(lines, blanks) && askMerged(questions, blanks);
+  const beyond = new Set(rowsBeyond(places, blocks));
+  const isBlank = ({ why, above, line }: Place) => why === "blank" && above !== "" && !beyond.has(line.row);
+  const blanks = places.filter(isBlank).map(({ line }) => line);
+  const isAsked = mayBeMerged(lines, blanks);
+  const fills = isAsked && askMerged(questions, blanks);
   const apart = places.filter(({ why }) => why === "apart");
   const hasHeadings = lines.some(({ role }) => role === "heading");
   const single = hasHeadings && apart.length
@@ -292,14 +313,17 @@ export function seated(
     : "none";
   const seatOf = ({ line, above, why }: Place): string => {
     if (why === "apart") return single === "own" ? line.cells.name || line.cells.code : single === "above" ? above : "";
-    return why === "blank" && !fills ? "" : above;
+    return why === "blank" && !fills && !beyond.has(line.row) ? "" : above;
   };
   const seats = places.map((place) => [place.line.row, seatOf(place)] as const);
   const marked = lines.map((line): Line => {
     return alternates.includes(line) && line.role === "heading" ? { ...line, role: "alternate" } : line;
   });
+  const answered = [...(isAsked ? blanks : []), ...(hasHeadings ? apart.map(({ line }) => line) : [])];
   return {
     lines: marked,
+    beyond,
+    answered: new Set(answered.map(({ row }) => row)),
     seats: new Map(seats.filter(([, chair]) => chair !== "" && !isNone(chair))),
     alternates: alternates.map(({ row }) => row),
     notices: placeNotices(places, alternates),

@@ -1,4 +1,5 @@
 /** Cells that span several rows or columns, laid out as a grid. */
+import { CellCount } from "./limits";
 
 /** A cell of a row, and how many rows and columns it spans. */
 export interface SpanningCell {
@@ -20,11 +21,13 @@ const MOST_COLUMNS = 200;
 /** Lays out rows of cells as a web page does. A cell over several rows is in each of them, at its first column. */
 export function gridOf(rows: readonly (readonly SpanningCell[])[]): Grid {
   const grid: string[][] = rows.map(() => []);
+  const count = new CellCount();
   let filled = 0;
   rows.forEach((cells, top) => {
     let left = 0;
     for (const { text, rows: high, columns: wide } of cells) {
       while (grid[top]?.[left] !== undefined) left += 1;
+      count.add(Math.min(high, grid.length - top) * Math.min(wide, MOST_COLUMNS));
       for (let row = top; row < Math.min(top + high, grid.length); row += 1) {
         for (let column = left; column < Math.min(left + wide, MOST_COLUMNS); column += 1) {
           const line = grid[row];

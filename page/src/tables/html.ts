@@ -1,5 +1,6 @@
 /** Tables of web pages, and of the HTML that spreadsheets put on the clipboard, as sheets. */
 import { filledNotice, gridOf, MOST_ROWS, type SpanningCell } from "./grid";
+import { checkTags } from "./limits";
 import { sheetOfCells } from "./text";
 import { Unreadable, type NamedSheet } from "./types";
 
@@ -35,15 +36,41 @@ function sheetOfTable(table: Element, place: number): NamedSheet {
   return { name: caption || `Table ${place + 1}`, sheet: sheetOfCells(cells, "", filledNotice(filled)) };
 }
 
-/** HTML without what the page's policy forbids and no table needs: styles and scripts. */
-function bare(html: string): string {
-  const plain = html.replace(/<(style|script)\b[^]*?<\/\1\s*>/gi, "");
-  return plain.replace(/\s(style|on[a-z]+)\s*=\s*("[^"]*"|'[^']*')/gi, "");
+/** HTML without the parts between a start and its end; what has no end goes on to the last letter. */
+function without(html: string, start: RegExp, endOf: (start: string) => string): string {
+  const kept: string[] = [];
+  let from = 0;
+  for (let found = start.exec(html); found; found = start.exec(html)) {
+    kept.push(html.slice(from, found.index));
+    const end = new RegExp(endOf(found[0] ?? ""), "gi");
+    end.lastIndex = start.lastIndex;
+    from = end.test(html) ? end.lastIndex : html.length;
+    start.lastIndex = from;
+  }
+  return kept.join("") + html.slice(from);
+}
+
+/** A tag, if a table needs it: without styles and scripts, which the page's policy forbids. */
+function bareTag(tag: string, name: string): string {
+  if (/^(p|div|li)$/i.test(name)) return tag.startsWith("</") ? "<br>" : "";
+  if (/^(table|caption|t(head|body|foot|r|d|h)|br|sup)$/i.test(name)) {
+    return tag.replace(/\s(style|on[a-z]+)\s*=\s*("[^"]*"|'[^']*')/gi, "");
+  }
+  return "";
+}
+
+/** HTML without all that no table needs. Each letter is looked at a few times at most. */
+export function bare(html: string): string {
+  const told = without(html, /<!--/g, () => "-->");
+  const plain = without(told, /<(style|script)\b/gi, (start) => `</${start.slice(1)}\\s*>`);
+  return plain.replace(/<\/?([a-z][a-z0-9:-]*)\b(?:[^"'<>]|"[^"<]*"|'[^'<]*')*>/gi, bareTag);
 }
 
 /** The tables of a page that have several rows and columns. */
 export function sheetsOfHtml(html: string, parse: Parse): NamedSheet[] {
-  const tables = [...parse(bare(html), "text/html").querySelectorAll("table")];
+  const plain = bare(html);
+  checkTags(plain, "This page");
+  const tables = [...parse(plain, "text/html").querySelectorAll("table")];
   const sheets = tables.map(sheetOfTable).filter(({ sheet }) => sheet.width > 1 && sheet.rows.length > 1);
   if (!sheets.length) throw new Unreadable("There is no table in this page.");
   return sheets;

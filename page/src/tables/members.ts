@@ -5,7 +5,8 @@ import { votesReason, wholeOf, type Thousands } from "./numbers";
 import type { Line } from "./rows";
 import type { CellFault, Meaning, TableMember } from "./types";
 
-const TRUE = /^(true|yes|y|1|x|suspended|vrai|wahr|oui|ja)$/i;
+/** What says in the column of suspensions that a member is suspended, and that it isn't. */
+export const TRUE = /^(true|yes|y|1|x|suspended|vrai|wahr|oui|ja)$/i;
 const FALSE = /^(false|no|n|0|-|faux|falsch|non|nein|)$/i;
 
 /** What the rows of members give. */

@@ -1,4 +1,5 @@
 /** Whole numbers as people print them, and the footnote marks behind numbers and names. */
+import { MOST_LETTERS } from "./limits";
 
 /** The mark between thousands: a comma or a point. Apostrophes and blanks always may be one. */
 export type Thousands = "," | ".";
@@ -13,15 +14,23 @@ const OTHER_DIGIT = /(?![0-9])\p{Nd}/u;
 const MARKS_BEFORE = /^[*†‡§]+\s*/;
 /** Marks such as `*`, a raised 1, ` 1/`, ` a/`, ` 1)`, `(1)` and `[1]`. A `1/` needs a blank before it, or a letter. */
 const MARKS_AFTER = [
-  /\s*[*†‡§]+$/,
-  /\s*[\u00b9\u00b2\u00b3\u2070\u2074-\u2079]+[/⁄)]?$/,
-  /\s+[0-9]{1,2}(,\s?[0-9]{1,2})*\/$/,
-  /\s+[a-z]\/$/i,
-  /\s*\([0-9]{1,2}\)$/,
-  /\s*\[([0-9]{1,2}|[a-z])\]$/i,
+  /[*†‡§]+$/,
+  /[\u00b9\u00b2\u00b3\u2070\u2074-\u2079]+[/⁄)]?$/,
+  /\s[0-9]{1,2}(,\s?[0-9]{1,2})*\/$/,
+  /\s[a-z]\/$/i,
+  /\([0-9]{1,2}\)$/,
+  /\[([0-9]{1,2}|[a-z])\]$/i,
 ];
+/** Marks end within as many letters, and stand at most as often behind one another. */
+const MARK_LETTERS = 16;
+const MOST_MARKS = 16;
+/** Cells without any mark. */
+const PLAIN = /^[0-9, .A-Za-z]*[0-9A-Za-z]$/;
 const MARK_AT_LETTER = /(\p{L})[0-9]{1,2}\/$/u;
 const MARK_IN_HALF = /^([^()]*\S)\s+[0-9]{1,2}\)$/;
+
+/** Words on suspended voting rights: they are asked about, wherever they stand. */
+export const SUSPENSION = /suspen[ds]/i;
 
 /** A number that was read: its value, and what was passed over. */
 export interface Whole {
@@ -30,15 +39,54 @@ export interface Whole {
   readonly hasZeros: boolean;
 }
 
+/** A cell without the brackets at its end, if they speak of a suspension. */
+function withoutSuspension(cell: string): string {
+  const at = /[)\]]$/.test(cell) ? Math.max(cell.lastIndexOf("("), cell.lastIndexOf("[")) : -1;
+  return at > 0 && SUSPENSION.test(cell.slice(at)) ? cell.slice(0, at).trimEnd() : cell;
+}
+
+/** A cell without a mark at its end, and without the blanks before that. */
+function withoutMark(cell: string, mark: RegExp): string {
+  const end = cell.slice(-MARK_LETTERS);
+  const less = end.replace(mark, "");
+  return less === end ? cell : (cell.slice(0, cell.length - end.length) + less).trimEnd() || cell;
+}
+
 /** A cell without the footnote marks around it. A cell that is nothing else stays as it is. */
 export function withoutMarks(cell: string): string {
   let rest = cell;
-  for (let before = ""; before !== rest;) {
+  if (cell.length > MOST_LETTERS || PLAIN.test(cell)) return cell;
+  for (let [before, many] = ["", 0]; before !== rest && many < MOST_MARKS; many += 1) {
     before = rest;
-    for (const mark of [MARKS_BEFORE, ...MARKS_AFTER]) rest = rest.replace(mark, "") || rest;
-    rest = rest.replace(MARK_AT_LETTER, "$1").replace(MARK_IN_HALF, "$1");
+    rest = rest.replace(MARKS_BEFORE, "") || rest;
+    for (const mark of MARKS_AFTER) rest = withoutMark(rest, mark);
+    rest = withoutSuspension(rest.replace(MARK_AT_LETTER, "$1").replace(MARK_IN_HALF, "$1"));
   }
   return rest;
+}
+
+/** A footnote's mark without what stands around it: `1` for a raised 1, `1/`, `(1)` and `[1]`. */
+function plainMark(mark: string): string {
+  return mark.normalize("NFKC").replace(/[\s()[\]/.\u2044]/g, "").toLowerCase();
+}
+
+/** The footnote marks around a cell. */
+export function marksOf(cell: string): string[] {
+  const bare = withoutMarks(cell);
+  const at = cell.indexOf(bare);
+  const around = `${cell.slice(0, at)} ${cell.slice(at + bare.length)}`;
+  return (around.match(/[*†‡§]+|[\u00b9\u00b2\u00b3\u2070\u2074-\u2079]+|[0-9]{1,2}|\b[a-z]\b/gi) ?? []).map(plainMark);
+}
+
+const NOTE_MARK = new RegExp(
+  "^([*†‡§]+|[\\u00b9\\u00b2\\u00b3\\u2070\\u2074-\\u2079]+|[(\\[]?[0-9]{1,2}[)\\]/.]?|[(\\[]?[a-z][)\\]/])" +
+    "\\s*(?=[\\p{L}\"'(])",
+  "iu",
+);
+
+/** The mark with which a footnote begins, or an empty string. */
+export function noteMark(text: string): string {
+  return plainMark(NOTE_MARK.exec(text)?.[1] ?? "");
 }
 
 function patternOf(thousands: Thousands): RegExp {
@@ -67,8 +115,22 @@ export function isNumber(cell: string): boolean {
 
 /** The value of a decimal or a per cent, or null. */
 export function decimalOf(cell: string): number | null {
-  const bare = withoutMarks(cell).replace(/\s*%$/, "");
+  const bare = withoutMarks(cell).replace(/%$/, "").trimEnd();
   return /^[0-9]+([.,][0-9]+)?$/.test(bare) ? Number(bare.replace(",", ".")) : null;
+}
+
+/** A per cent with the unit of its last digit, or null. */
+export function percentOf(cell: string): { value: number; unit: number } | null {
+  const found = /^([0-9]{1,3})(?:[.,]([0-9]{1,15}))?\s*%?$/.exec(withoutMarks(cell));
+  if (!found) return null;
+  const [, whole = "", digits = ""] = found;
+  return { value: Number(`${whole}.${digits || "0"}`), unit: 10 ** -digits.length };
+}
+
+/** The whole numbers of four digits or more in a text. */
+export function wholesIn(text: string, thousands: Thousands): number[] {
+  const found = text.match(/[0-9]{1,3}(?:[,.'\u2019 \u00a0\u2009\u202f][0-9]{3})+(?![0-9])|[0-9]{4,20}/g) ?? [];
+  return found.flatMap((it) => wholeOf(it, thousands)?.value ?? []);
 }
 
 /** Whether a cell is in per cent, or a decimal number. */
@@ -78,8 +140,10 @@ export function isPercent(cell: string): boolean {
 
 /** The mark between thousands that some cell proves, by two marks of a kind or by a decimal behind one; else null. */
 export function provenThousands(cells: readonly string[]): Thousands | null {
-  const proves = (mark: string, other: string) =>
-    cells.some((cell) => new RegExp(`^[0-9]{1,3}(\\${mark}[0-9]{3})+(\\${mark}[0-9]{3}|\\${other}00?)$`).test(cell));
+  const proves = (mark: string, other: string) => {
+    const proof = new RegExp(`^[0-9]{1,3}(\\${mark}[0-9]{3})+(\\${mark}[0-9]{3}|\\${other}00?)$`);
+    return cells.some((cell) => proof.test(cell));
+  };
   const [comma, point] = [proves(",", "."), proves(".", ",")];
   return comma === point ? null : comma ? "," : ".";
 }

@@ -1,21 +1,28 @@
 /** Reads a sheet by its layout and the answers so far: a whole table, or what is wrong and what is open. */
 import { counted, grouped } from "../study/fractions";
+import { withoutAggregates, withoutLoose } from "./aggregates";
 import { columnName, columnNames, hasTwoHeaders } from "./columns";
 import { seated, type AlternateHead, type Seated } from "./chairs";
-import { madeCodes } from "./codes";
+import { countryCode, freeCodes, madeCodes } from "./codes";
 import { membersOf, type Members } from "./members";
 import { wholeOf } from "./numbers";
 import { Questions } from "./questions";
+import { outsideOf, outsideWords } from "./outside";
 import { lineWords, linesOf, rowsWords, type Line, type Role } from "./rows";
+import { withSimilar } from "./similar";
 import { isStrict } from "./strict";
+import { askSuspensions } from "./suspensions";
 import { withHeadings, withTotals } from "./totals";
-import { MEANING_WORDS, type Answers, type CellFault, type Layout, type ReadTable, type Sheet } from "./types";
+import {
+  MEANING_WORDS, type Answers, type CellFault, type Layout, type ReadTable, type Sheet, type TableMember,
+} from "./types";
 
 /** What a row is in words, if it isn't a member. */
 const ROLE_WORDS: Readonly<Partial<Record<Role, string>>> = {
   heading: "heading", total: "total", header: "header again", note: "note", alternate: "alternate", out: "left out",
+  aggregate: "left out",
 };
-const NOT_MEMBERS: readonly Role[] = ["header", "note", "alternate", "out"];
+const NOT_MEMBERS: readonly Role[] = ["header", "note", "alternate", "out", "aggregate"];
 
 /** Asks which of several columns has the votes. */
 function askVotes(sheet: Sheet, layout: Layout, questions: Questions): Layout {
@@ -65,7 +72,8 @@ function rowFaults(sheet: Sheet, { header, columns }: Layout, lines: readonly Li
 
 /** Asks about names that stand twice. Returns the rows that are left out. */
 function askRepeats(lines: readonly Line[], questions: Questions): ReadonlySet<number> {
-  const keyOf = (name: string) => name.normalize("NFD").replace(/\p{M}/gu, "").replace(/\s+/g, " ").toLowerCase();
+  const plain = (name: string) => name.normalize("NFD").replace(/\p{M}/gu, "").replace(/\s+/g, " ").toLowerCase();
+  const keyOf = (name: string) => countryCode(name) ?? plain(name);
   const first = new Map<string, Line>();
   const out = new Set<number>();
   for (const line of lines) {
@@ -217,9 +225,10 @@ function withCodes(lines: readonly Line[], layout: Layout): { coded: readonly Li
   if (layout.columns.code >= 0) return { coded: lines, made: [] };
   const codes = madeCodes(lines.map(({ cells }) => cells.name));
   const said = lines.map(({ cells }, at) => `${codes[at]} ${cells.name}`).join("; ");
+  const words = "they were made from names (a country's by ISO 3166, and else one that no country has)";
   return {
     coded: lines.map((line, at) => ({ ...line, cells: { ...line.cells, code: codes[at] ?? "" } })),
-    made: [`The table has no codes: they were made from names: ${said}`],
+    made: [`The table has no codes: ${words}: ${said}`],
   };
 }
 
@@ -232,20 +241,31 @@ function alternateHead(sheet: Sheet, layout: Layout): AlternateHead {
 }
 
 /** What the rows are, with the chairs of the members. */
-interface Arranged extends Seated {
+interface Arranged extends Pick<Seated, "lines" | "seats"> {
   readonly said: readonly string[];
+  /** The members that the table leaves out. */
+  readonly outside: readonly TableMember[];
+}
+
+/** The lines of suspended members with the word in their column. */
+function withSuspensions(lines: readonly Line[], rows: ReadonlySet<number>): Line[] {
+  return lines.map((line) => (rows.has(line.row) ? { ...line, cells: { ...line.cells, suspended: "true" } } : line));
 }
 
 /** Finds totals, headings and chairs, and asks about them. */
 function arranged(sheet: Sheet, layout: Layout, answers: Answers, questions: Questions): Arranged {
-  const all = linesOf(sheet, layout, answers.leftOut);
+  const all = withoutAggregates(linesOf(sheet, layout, answers.leftOut), questions);
   const { lines, blocks, notices } = withTotals(withHeadings(all, questions), questions);
   askChairs(lines.filter(({ role }) => role === "member" || role === "heading"), layout, questions);
   const result = seated(lines, blocks, alternateHead(sheet, layout), questions);
+  const loose = questions.hasOpen("single") ? result : withoutLoose(result.lines, result, questions);
+  const found = { lines: loose.lines, seats: withSimilar(loose.seats, questions) };
   // The sums can be compared once it is known which rows are of one chair.
-  if (!questions.hasOpen("alternate", "headings", "single")) askSums(result.lines, result.seats, questions);
-  const said = [...roleNotices(result.lines), ...notices, ...result.notices, ...markNotice(result.lines)];
-  return { ...result, said };
+  if (!questions.hasOpen("alternate", "headings", "single")) askSums(found.lines, found.seats, questions);
+  const suspended = askSuspensions(sheet, layout, found.lines, answers.leftOut, questions);
+  const outside = questions.hasOpen("total", "headings") ? [] : outsideOf(sheet, layout, found.lines, questions);
+  const said = [...roleNotices(found.lines), ...notices, ...result.notices, ...markNotice(found.lines)];
+  return { lines: withSuspensions(found.lines, suspended), seats: found.seats, said, outside };
 }
 
 /** A strict table: its cells as they are, and each row a member. */
@@ -253,7 +273,7 @@ function strictly(sheet: Sheet, layout: Layout, answers: Answers): Arranged {
   const given = linesOf(sheet, layout, answers.leftOut);
   const lines = given.map((line): Line => ({ ...line, cells: line.raw, role: "member" }));
   const seats = new Map(lines.filter(({ cells }) => cells.chair).map(({ row, cells }) => [row, cells.chair]));
-  return { lines, seats, alternates: [], notices: [], said: [] };
+  return { lines, seats, said: [], outside: [] };
 }
 
 function rolesOf(lines: readonly Line[], out: ReadonlySet<number>): Map<number, string> {
@@ -280,6 +300,8 @@ export function readTable(sheet: Sheet, given: Layout, answers: Answers): ReadTa
   const out = strict ? new Set<number>() : askRepeats(own, questions);
   const { coded, made } = withCodes(own.filter(({ row }) => !out.has(row)), layout);
   const members = membersOf(coded, rows.seats, layout.thousands);
+  const used = members.members.map(({ code }) => code);
+  const outside = rows.outside.map((it): TableMember => ({ ...it, code: freeCodes(used)[0] ?? "" }));
   const none: CellFault = { row: 0, meaning: "code", reason: "there is no member in the table" };
   const faults = [...rowFaults(sheet, layout, coded), ...members.faults, ...(own.length ? [] : [none])]
     .sort((one, other) => one.row - other.row);
@@ -287,9 +309,9 @@ export function readTable(sheet: Sheet, given: Layout, answers: Answers): ReadTa
   const left = [...answers.leftOut].sort((one, other) => one - other).map((row) => `Row ${row} was left out`);
   const chosen = questions.all.flatMap(({ choice }) => (choice ? [choice] : []));
   const base = {
-    members: members.members,
+    members: [...members.members, ...outside],
     chairNames: members.chairNames,
-    choices: [...notices, ...left, ...chosen, ...made],
+    choices: [...notices, ...left, ...chosen, ...made, ...outside.map(outsideWords)],
     columns: columnNames(sheet, layout),
   };
   const isWhole = !faults.length && questions.areAnswered;

@@ -1,5 +1,5 @@
 /** The rows of a sheet, by what their cells mean and by what kind of row they seem to be. */
-import { isNumber, wholeOf, withoutMarks } from "./numbers";
+import { isNumber, SUSPENSION, wholeOf, withoutMarks } from "./numbers";
 import { MEANINGS, type Layout, type Meaning, type Sheet } from "./types";
 
 /** What a row is. The kinds from `named` to `printed` are totals if arithmetic says so. */
@@ -12,6 +12,7 @@ export type Role =
   | "printed" // a number in the column of chairs' totals alone
   | "total"
   | "header" // the header again
+  | "aggregate" // the sum of members elsewhere, such as a group or a region
   | "note"
   | "alternate"
   | "out";
@@ -41,7 +42,7 @@ const TOTAL_NAME = new RegExp(
 const NOTE = /^([*†‡§]|[\u00b9\u00b2\u00b3\u2070\u2074-\u2079]|[0-9]{1,2}\/)\s*\p{L}/u;
 /** Marks of notes that could number headings, too. */
 const LAST_NOTE = /^([0-9]{1,2}\)|\([0-9]{1,2}\)|\[[0-9]{1,2}\])\s*\p{L}/u;
-const NOTE_WORDS = /^(notes?|sources?|footnotes?|as of)\b/i;
+const NOTE_WORDS = /^(notes?|sources?|footnotes?|as of|memorandum|memo items?|of which)\b/i;
 const HEADING_WORDS = /^casting votes of\s+/i;
 
 function isText(cell: string): boolean {
@@ -76,7 +77,7 @@ function roleWithoutVotes(row: readonly string[], cells: Cells, layout: Layout, 
   const texts = filled.filter(isText);
   const first = texts[0] ?? "";
   const isAlone = filled.length === 1 && texts.length === 1;
-  if (isNote(first, isLast) && (isAlone || isLast)) return "note";
+  if ((isNote(first, isLast) || SUSPENSION.test(first)) && (isAlone || isLast)) return "note";
   const at = row.indexOf(first);
   const { chair, name, code } = layout.columns;
   if (isAlone && !isLast && (chair < 0 ? at !== code : at === chair)) return "heading";

@@ -1,6 +1,7 @@
 /** Texts with tabs, semicolons or commas between cells, as sheets. */
 import { dsvFormat } from "d3-dsv";
 import { counted } from "../study/fractions";
+import { countUpTo, MOST_LINES } from "./limits";
 import { splitLines } from "./lines";
 import { Unreadable, type Sheet } from "./types";
 
@@ -80,6 +81,9 @@ function checkCells({ rows, width }: Sheet): void {
 /** The cells of a text, separated as it seems or by the delimiter that is given. */
 export function sheetOf(text: string, notices: readonly string[] = [], given?: string): Sheet {
   const plain = text.replace(/^\ufeff/, "");
+  if (countUpTo(plain, "\n", MOST_LINES) > MOST_LINES) {
+    throw new Unreadable(`This text has more than ${counted(MOST_LINES, "line")}; a board has at most 256 members.`);
+  }
   checkKind(plain);
   const delimiter = given ?? delimiterOf(plain);
   checkQuotes(plain, delimiter);

@@ -16,6 +16,9 @@ export interface Block {
   readonly value: number;
 }
 
+/** The name of the member with all votes that the table leaves out. */
+export const OUTSIDE = "Outside the table";
+
 const TOTALS: readonly Role[] = ["named", "own", "bare", "printed", "total"];
 
 function isMember({ role, votes }: Line): boolean {
@@ -77,8 +80,8 @@ function nearestSum(lines: readonly Line[], at: number, value: number): Line[] {
   return sums.reduce((best, next) => (away(next) < away(best) ? next : best), sums[0] ?? []);
 }
 
-/** Asks whether a row is a total. Returns its role: while the question is open, that of a total. */
-function askTotal(questions: Questions, line: Line, why: string): Role {
+/** Asks whether a row is a total, or one with votes outside the table. Returns its role, a total's while it is open. */
+function askTotal(questions: Questions, line: Line, why: string, outside = 0): Role {
   const who = `${lineWords(line)}, ${why},`;
   const answer = questions.ask({
     id: `total-${line.row}`,
@@ -86,6 +89,10 @@ function askTotal(questions: Questions, line: Line, why: string): Role {
     row: line.row,
     words: `A total? ${lineWords(line)} ${why.replace(/^which /, "")}.`,
     options: [
+      ...(outside > 0 ? [{
+        key: "add", words: `Yes, and the table leaves members out: add one in no chair with ${grouped(outside)} votes`,
+        choice: `${who} was left out as a total of more members than the table has`,
+      }] : []),
       { key: "yes", words: "Yes: leave this row out", choice: `${who} was left out as a total` },
       { key: "no", words: "No: it is a member", choice: `${who} is a member` },
     ],
@@ -147,8 +154,10 @@ function askNamed(questions: Questions, lines: readonly Line[], at: number, line
   if (value === null) return "member";
   const rows = nearestSum(lines, at, value);
   const sum = `${rowsWords(rows.map(({ row }) => row))} have ${grouped(sumOf(rows))} votes`;
-  return askTotal(questions, line, `which ${
-    line.role === "named" ? "is named as" : "stands for"} a total and has ${grouped(value)} votes, while ${sum}`);
+  const all = lines.filter(isMember);
+  const outside = line.votes !== null && rows.length === all.length ? value - sumOf(all) : 0;
+  return askTotal(questions, line, `which ${line.role === "named" ? "is named as" : "stands for"} a total and has ${
+    grouped(value)} votes, while ${sum}`, outside);
 }
 
 /** Whether a chair's name with votes stands above the members of the chair. */

@@ -62,11 +62,22 @@ export type QuestionKind =
   | "single" // rows under no heading
   | "total" // a row that may be a total
   | "sums" // printed totals of chairs that differ from the sums
-  | "repeat"; // the same name twice
+  | "repeat" // the same name twice
+  | "aggregate" // a row that may be the sum of members, such as a group or a region
+  | "similar" // names of chairs that are nearly equal
+  | "outside" // votes that the table leaves out
+  | "suspended"; // words on a suspension outside of its column
 
 export interface Option {
   readonly key: string;
   readonly words: string;
+}
+
+/** A number that is asked for: its least and greatest value, and the one that is taken now. */
+export interface AskedNumber {
+  readonly low: number;
+  readonly high: number;
+  readonly value: number;
 }
 
 /** A question in words. A null answer is open. */
@@ -78,6 +89,8 @@ export interface Question {
   readonly words: string;
   readonly options: readonly Option[];
   readonly answer: string | null;
+  /** A number that belongs to the answer, where only its range is known: its own answer has the id with `-number`. */
+  readonly number: AskedNumber | null;
   /** The sentence for the list of choices, once it is answered. */
   readonly choice: string;
 }
@@ -89,7 +102,7 @@ export interface CellFault {
   readonly reason: string;
 }
 
-/** A member as a table gives it. */
+/** A member as a table gives it. Its row is 0 if the table leaves it out, and an answer adds it. */
 export interface TableMember {
   readonly code: string;
   readonly name: string;

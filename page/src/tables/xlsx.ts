@@ -2,12 +2,14 @@
 import JSZip from "jszip";
 import { zipWords } from "./bytes";
 import { filledNotice, MOST_ROWS } from "./grid";
+import { CellCount, checkTags, MOST_PART, MOST_PARTS } from "./limits";
 import type { Parse } from "./html";
 import { sheetOfCells } from "./text";
 import { Unreadable, type NamedSheet } from "./types";
 
-const MOST_BYTES = 64 * 1024 * 1024;
 const MOST_COLUMNS = 200;
+/** The sheets of the workbook that the page exports. */
+const OWN_SHEETS = "Shown,Table,Fractions,Source";
 /** The built-in formats of numbers that are dates, times and per cent. */
 const DATES = new Set([14, 15, 16, 17, 18, 19, 20, 21, 22, 45, 46, 47]);
 const PERCENTS = new Set([9, 10]);
@@ -23,9 +25,15 @@ interface Shared {
   readonly epoch: number;
 }
 
-/** The text of a part of the zip file; empty if there is none. */
-async function partOf(zip: JSZip, name: string): Promise<string> {
-  const part = zip.file(name);
+/** A workbook's zip file, and how many letters of it were unpacked. */
+interface Packed {
+  readonly zip: JSZip;
+  unpacked: number;
+}
+
+/** The text of a part of the zip file; empty if there is none. It stops unpacking at the limits. */
+async function partOf(packed: Packed, name: string): Promise<string> {
+  const part = packed.zip.file(name);
   if (!part) return "";
   return new Promise((resolve, reject) => {
     const pieces: string[] = [];
@@ -33,16 +41,24 @@ async function partOf(zip: JSZip, name: string): Promise<string> {
     const stream = part.internalStream("string");
     stream.on("data", (piece) => {
       size += piece.length;
+      packed.unpacked += piece.length;
       pieces.push(piece);
-      if (size > MOST_BYTES) {
-        stream.pause();
-        reject(new Unreadable("This workbook is too large."));
-      }
+      if (size <= MOST_PART && packed.unpacked <= MOST_PARTS) return;
+      stream.pause();
+      pieces.length = 0;
+      reject(new Unreadable(`This workbook is too large: its part ${name} has more than a table of members.`));
     });
     stream.on("error", () => reject(new Unreadable("This workbook is damaged.")));
     stream.on("end", () => resolve(pieces.join("")));
     stream.resume();
   });
+}
+
+/** A part as a document. Entities of its own, which may unpack to very much, are refused. */
+function documentOf(text: string, parse: Parse): Document {
+  if (/<!(DOCTYPE|ENTITY)/i.test(text)) throw new Unreadable("This workbook is damaged: it defines entities.");
+  checkTags(text, "This workbook");
+  return parse(text || "<none/>", "application/xml");
 }
 
 /** The elements of a name below a node, whatever their namespace is called. */
@@ -112,6 +128,7 @@ function isInside({ row, column }: { row: number; column: number }): boolean {
 /** Fills merged cells down in a grid. Returns into how many cells. */
 function fillMerged(grid: string[][], sheet: Document): number {
   let filled = 0;
+  const count = new CellCount();
   for (const merged of all(sheet, "mergeCell")) {
     const [first = "", last = ""] = (merged.getAttribute("ref") ?? "").split(":");
     const [from, to] = [placeOf(first), placeOf(last)];
@@ -120,6 +137,7 @@ function fillMerged(grid: string[][], sheet: Document): number {
       const line = grid[row];
       if (line) line[from.column] = text;
       filled += 1;
+      count.add(1);
     }
   }
   return filled;
@@ -133,12 +151,14 @@ function hiddenNotice(sheet: Document): string[] {
 
 function cellsOf(sheet: Document, shared: Shared): { grid: string[][]; filled: number } {
   const grid: string[][] = [];
+  const count = new CellCount();
   all(sheet, "row").forEach((row, at) => {
     const number = Number(row.getAttribute("r") ?? grid.length + 1) - 1;
     all(row, "c").forEach((cell, place) => {
       const reference = cell.getAttribute("r");
       const to = reference ? placeOf(reference) : { row: Math.max(number, at), column: place };
       if (!isInside(to)) throw new Unreadable(`This sheet has more than ${MOST_ROWS} rows or ${MOST_COLUMNS} columns.`);
+      count.add(1);
       while (grid.length <= to.row) grid.push([]);
       const line = grid[to.row];
       if (line) line[to.column] = cellText(cell, shared);
@@ -149,16 +169,16 @@ function cellsOf(sheet: Document, shared: Shared): { grid: string[][]; filled: n
 }
 
 /** Reads the parts that the sheets refer to. */
-async function sharedOf(zip: JSZip, workbook: Document, folder: string, parse: Parse): Promise<Shared> {
-  const part = async (name: string) => parse((await partOf(zip, folder + name)) || "<none/>", "application/xml");
+async function sharedOf(packed: Packed, workbook: Document, folder: string, parse: Parse): Promise<Shared> {
+  const part = async (name: string) => documentOf(await partOf(packed, folder + name), parse);
   const [strings, styles] = [await part("sharedStrings.xml"), await part("styles.xml")];
   const is1904 = all(workbook, "workbookPr").some((it) => /^(1|true)$/.test(it.getAttribute("date1904") ?? ""));
   return { texts: all(strings, "si").map(richText), formats: formatsOf(styles), epoch: is1904 ? -24107 : -25569 };
 }
 
 /** The path of each sheet's part by its relation. */
-async function targetsOf(zip: JSZip, folder: string, parse: Parse): Promise<Map<string, string>> {
-  const relations = parse((await partOf(zip, `${folder}_rels/workbook.xml.rels`)) || "<none/>", "application/xml");
+async function targetsOf(packed: Packed, folder: string, parse: Parse): Promise<Map<string, string>> {
+  const relations = documentOf(await partOf(packed, `${folder}_rels/workbook.xml.rels`), parse);
   return new Map(all(relations, "Relationship").map((it) => {
     const target = it.getAttribute("Target") ?? "";
     return [it.getAttribute("Id") ?? "", target.startsWith("/") ? target.slice(1) : folder + target];
@@ -183,20 +203,25 @@ function sheetOf(entry: Element, sheet: Document, shared: Shared): NamedSheet {
 
 /** The sheets of a workbook that have cells. Throws `Unreadable` with a sentence if the file is no workbook. */
 export async function sheetsOfXlsx(bytes: ArrayBuffer, parse: Parse): Promise<NamedSheet[]> {
-  const zip = await opened(bytes);
-  const names = Object.keys(zip.files);
+  const packed = { zip: await opened(bytes), unpacked: 0 };
+  const names = Object.keys(packed.zip.files);
   const folder = "xl/";
-  const text = await partOf(zip, `${folder}workbook.xml`);
+  const text = await partOf(packed, `${folder}workbook.xml`);
   if (!text) throw new Unreadable(zipWords(names));
-  const workbook = parse(text, "application/xml");
-  const [shared, targets] = [await sharedOf(zip, workbook, folder, parse), await targetsOf(zip, folder, parse)];
+  const workbook = documentOf(text, parse);
+  const [shared, targets] = [await sharedOf(packed, workbook, folder, parse), await targetsOf(packed, folder, parse)];
+  const entries = all(workbook, "sheet").map((it) => it.getAttribute("name") ?? "");
+  if (entries.join() === OWN_SHEETS) {
+    throw new Unreadable("This is the workbook of results that this page exports: it has chairs and their power, and " +
+      "no members. Open the exported script or page, or a table of members.");
+  }
   const sheets: NamedSheet[] = [];
   const unread: string[] = [];
   for (const it of all(workbook, "sheet")) {
     const relation = [...it.attributes].find(({ localName, name }) => localName === "id" && name !== "sheetId");
-    const part = await partOf(zip, targets.get(relation?.value ?? "") ?? "");
     try {
-      const named = part ? sheetOf(it, parse(part, "application/xml"), shared) : null;
+      const part = await partOf(packed, targets.get(relation?.value ?? "") ?? "");
+      const named = part ? sheetOf(it, documentOf(part, parse), shared) : null;
       if (named?.sheet.rows.length) sheets.push(named);
     } catch (why) {
       if (!(why instanceof Unreadable)) throw why;

@@ -7,7 +7,7 @@ import { button, choice, h, paint, type Child } from "./dom";
 import { grouped } from "../study/fractions";
 import type { Tried } from "../engine/orders";
 import type { Report } from "../engine/pool";
-import { chairChoices, type Standing } from "../engine/standing";
+import { chairChoices, type Place, type Standing } from "../engine/standing";
 import { MAJORITY, MEASURE, type Majority } from "../study/words";
 import { movesToAny, movesToChair } from "./bestTables";
 import { LongWork } from "./longWork";
@@ -15,16 +15,20 @@ import { LongWork } from "./longWork";
 /** The moves to any chair that are shown. */
 const MOST_SHOWN = 50;
 
-/** What is asked for: moves to a chair, or with null to each chair, at a majority. */
+/** What is asked for: moves to a chair, or with null to each chair, at a majority. Those to each chair empty no chair,
+ * unless they may: an emptied chair changes more than any other move. */
 interface Asked {
   readonly chair: number | null;
   readonly majority: Majority;
+  readonly mayEmpty: boolean;
 }
 
 /** The members that can be moved, the chairs that they are moved to, and how many moves these are. */
-function movesOf(standing: Standing, { chair }: Asked): { codes: string[]; chairs: readonly number[]; many: number } {
+function movesOf(standing: Standing, asked: Asked): { codes: string[]; chairs: readonly number[]; many: number } {
+  const { chair, mayEmpty } = asked;
   const chairs = chair === null ? standing.open() : [chair];
-  const members = standing.members().filter((it) => !it.suspended);
+  const isAlone = (it: Place) => it.chair !== null && standing.in(it.chair).length === 1;
+  const members = standing.members().filter((it) => !it.suspended && (chair !== null || mayEmpty || !isAlone(it)));
   const many = members.reduce((sum, it) => sum + chairs.filter((to) => to !== it.chair).length, 0);
   return { codes: members.map((it) => it.code), chairs, many };
 }
@@ -45,7 +49,7 @@ function wordsOf(app: App, { chair, majority }: Asked, tried: readonly Tried[], 
 function form(app: App, { study, counted }: Shown, close: () => void, work: LongWork): Child {
   const { standing } = counted;
   const open = standing.open();
-  let asked: Asked = { chair: open[0] ?? 0, majority: app.view.orderAt };
+  let asked: Asked = { chair: open[0] ?? 0, majority: app.view.orderAt, mayEmpty: false };
   const place = h("div", {});
   const said = h("p", { id: "best-words", role: "status" });
   const act = () => {
@@ -67,12 +71,16 @@ function form(app: App, { study, counted }: Shown, close: () => void, work: Long
   const setMajority = (text: string) => {
     asked = { ...asked, majority: app.view.majorities.find((it) => it === text) ?? asked.majority };
   };
+  const empties: HTMLInputElement = h("input", {
+    type: "checkbox", id: "best-empty", onchange: () => (asked = { ...asked, mayEmpty: empties.checked }),
+  });
   return [
     h("div", { class: "choices" },
       choice("best-chair", "To", [...chairs, ["any", "any chair"]], String(asked.chair), (it) => {
         asked = { ...asked, chair: it === "any" ? null : Number(it) };
       }),
       choice("best-at", "at", majorities, asked.majority, setMajority),
+      h("label", {}, empties, "any chair: also moves that empty a chair"),
       button("Try all members", act, { id: "best-run" }),
     ),
     said,

@@ -1,31 +1,34 @@
 /** The figures of the readings for the board as a whole. */
 import type { App } from "./app";
-import { byId, h } from "./dom";
+import { byId, h, type Child } from "./dom";
 import { fractionText, grouped, nearest, over, percent } from "../study/fractions";
 import { patch } from "./patch";
 import type { Reading, Readings } from "../engine/reading";
 import { MAJORITY } from "../study/words";
 import { markOf, SHORT } from "./rows";
 
+/** A quantity of the board: its words, where it comes from, and its text in a reading. */
 interface Quantity {
   readonly words: string;
-  /** Its text, its source, and whether all majorities have the same. */
-  of(reading: Reading): string;
   readonly source: string;
-  readonly isCommon: boolean;
+  readonly title?: string;
+  of(reading: Reading): string;
 }
 
-function whole(words: string, isCommon: boolean, of: (reading: Reading) => number): Quantity {
-  return { words, isCommon, source: "counted", of: (it) => grouped(of(it)) };
+function whole(words: string, of: (reading: Reading) => number, title?: string): Quantity {
+  return { words, source: "counted", of: (it) => grouped(of(it)), ...title ? { title } : {} };
 }
 
-const QUANTITIES: readonly Quantity[] = [
-  whole("Open chairs", true, (it) => it.chairs.length),
-  whole("Total votes", true, (it) => it.total),
-  whole("Votes cast", true, (it) => it.cast),
-  whole("Quota", false, (it) => it.quota),
-  whole("Coalitions", true, (it) => it.coalitions),
-  whole("Winning", false, (it) => it.winning),
+/** What all majorities have in common. */
+const COMMON: readonly Quantity[] = [
+  whole("Open chairs", (it) => it.chairs.length),
+  whole("Total votes", (it) => it.total),
+  whole("Votes cast", (it) => it.cast),
+  whole("Coalitions", (it) => it.coalitions),
+];
+const OWN: readonly Quantity[] = [
+  whole("Quota", (it) => it.quota, "the least number of votes that wins"),
+  whole("Winning", (it) => it.winning, "winning coalitions"),
 ];
 
 /** The power to act in per cent, with enough places for two significant digits. */
@@ -45,42 +48,49 @@ function oneIn({ act }: Reading): string {
 }
 
 /** A cell: what is now, and under it what was in the base, if that is different. */
-function cellOf(now: string, before: string, source: string): HTMLElement {
-  return h("td", { title: source }, now, now === before ? null : h("small", {}, `was ${before}`));
+function cellOf(now: string, before: string, title: string, ...more: Child[]): HTMLElement {
+  return h("td", { title }, now, more, now === before ? null : h("small", {}, `was ${before}`));
 }
 
-const TITLES: Readonly<Record<string, string>> = {
-  Quota: "the least number of votes that wins", Winning: "winning coalitions",
-  "Power to act": "winning coalitions of all coalitions",
-};
+/** A row of majorities' cells. Where there is no room beside more than two of them, its words stand above. */
+function rowOf({ words, title }: { words: string; title?: string }, cells: readonly HTMLElement[]): Child {
+  const isAbove = cells.length > 2;
+  const attributes = { class: "text", title, scope: isAbove ? "rowgroup" : "row", colspan: isAbove ? cells.length : 1 };
+  const head = h("th", attributes, words);
+  return isAbove ? h("tbody", {}, h("tr", { class: "above" }, head), h("tr", {}, cells))
+    : h("tbody", {}, h("tr", {}, head, cells));
+}
 
-/** What all majorities have in common, and under it a row for each majority. */
+/** Quantities as rows, and majorities as columns. */
 function table(before: Readings, after: Readings, digits: number): HTMLElement {
   const all = [...before].flatMap(([it, was]) => {
     const now = after.get(it);
     return now ? [{ majority: it, now, was }] : [];
   });
   const [first] = all;
-  const own = QUANTITIES.filter((it) => !it.isCommon);
-  const common = QUANTITIES.filter((it) => it.isCommon).map((it) => first && h("tr", {},
-    h("th", { scope: "row", class: "text", colspan: 2 }, it.words),
-    h("td", { title: it.source, colspan: 2 }, it.of(first.now) === it.of(first.was) ? null : `${it.of(first.was)} → `,
-      it.of(first.now))));
-  const rows = all.map(({ majority, now, was }) => {
-    const [text, old] = [actText(now, digits), actText(was, digits)];
-    const title = `${fractionText(now.act)} (counted: WINNING of COALITIONS)`;
-    return h("tr", { "data-majority": majority },
-      h("th", { scope: "row", class: "text", title: MAJORITY[majority].label }, markOf(majority), SHORT[majority]),
-      own.map((it) => cellOf(it.of(now), it.of(was), it.source)),
-      h("td", { title }, text, oneIn(now) ? h("small", {}, oneIn(now)) : null,
-        text === old ? null : h("small", {}, `was ${old}`)),
-    );
+  // A row of words and one value takes as many columns as the rows of majorities below it.
+  const common = first && COMMON.map((it) => {
+    const [now, was] = [it.of(first.now), it.of(first.was)];
+    const words = now === was ? now : `${was} → ${now}`;
+    const span = Math.max(1, all.length - Number(all.length > 2));
+    return h("tr", {}, h("th", { scope: "row", class: "text" }, it.words),
+      h("td", { title: it.source, colspan: span }, words));
   });
-  const names = [...own.map((it) => it.words), "Power to act"];
-  const heads = names.map((it) => h("th", { scope: "col", title: TITLES[it] }, it));
+  const heads = all.map(({ majority }) => {
+    const words = SHORT[majority].replace(" ", "\u00a0");
+    return h("th", { scope: "col", title: MAJORITY[majority].label }, markOf(majority), words);
+  });
+  const own = OWN.map((it) => rowOf(it, all.map(({ now, was }) => cellOf(it.of(now), it.of(was), it.source))));
+  const act = all.map(({ now, was }) => {
+    const title = `${fractionText(now.act)} (counted: WINNING of COALITIONS)`;
+    const small = oneIn(now);
+    return cellOf(actText(now, digits), actText(was, digits), title, small ? h("small", {}, small) : null);
+  });
   return h("table", { id: "board-table" },
-    h("tbody", {}, common.map((it) => it ?? null)),
-    h("tbody", {}, h("tr", { class: "heads" }, h("td", {}), heads), rows),
+    h("tbody", {}, common ?? null),
+    h("tbody", {}, h("tr", { class: "heads" }, all.length > 2 ? null : h("td", {}), heads)),
+    own,
+    rowOf({ words: "Power to act", title: "winning coalitions of all coalitions" }, act),
   );
 }
 

@@ -5,7 +5,7 @@ import { keepFocus } from "./focus";
 import { counted, grouped } from "../study/fractions";
 import type { Line } from "../engine/columns";
 import { memberWords } from "../study/commandWords";
-import { chairKey, closedChair, type Place } from "../engine/standing";
+import { closedChair, type Place } from "../engine/standing";
 import { namesChair, namesMember } from "./filter";
 import type { CardPlace } from "./moves";
 import { patch } from "./patch";
@@ -65,8 +65,7 @@ function isFiltered(app: App): boolean {
 
 /** Whether the filter names a chair, by its number or its given name. */
 function isNamed(app: App, chair: number): boolean {
-  const key = chairKey(chair, app.shown?.counted.standing.isNew(chair) ?? false);
-  return isFiltered(app) && namesChair(app.open.filter, chair, app.shown?.study.base.chairNames[key]);
+  return isFiltered(app) && namesChair(app.open.filter, chair, app.shown?.counted.standing.given(chair));
 }
 
 /** The card with the members that the filter finds: all of a chair that it names. */

@@ -4,9 +4,12 @@ import type { App } from "./app";
 import { changeWords, refusalWords } from "../study/commandWords";
 import { button, byId, h, type Child } from "./dom";
 import { keepFocus, setDisabled } from "./focus";
+import { listed } from "../study/names";
 import { operationDetails } from "../study/operationWords";
 import { patch } from "./patch";
-import { isOperation, withChanges, type Change, type Percentage, type Scale, type Study } from "../study/study";
+import {
+  isOperation, withAdded, withChanges, type Change, type Percentage, type Scale, type Study,
+} from "../study/study";
 import { MOST_VOTES } from "../study/words";
 import { readField, type Field } from "./field";
 
@@ -173,12 +176,31 @@ function paintItems(app: App): void {
   keepFocus(list, heir, () => patch(list, changes.map((it, place) => itemOf(app, it, place, changes.length))));
 }
 
+/** The chairs that have lost all members by changes, and are open. */
+function emptied({ shown }: App): number[] {
+  if (!shown) return [];
+  const { opening, standing } = shown.counted;
+  return standing.open().filter((it) => !standing.in(it).length && opening.in(it).length);
+}
+
+/** Says which chairs the changes have emptied, with a button that closes them. */
+function emptiedWords(app: App): Child {
+  const chairs = emptied(app);
+  if (!chairs.length) return null;
+  const which = chairs.length === 1 ? `Chair ${chairs[0]} has` : `Chairs ${listed(chairs.map(String))} have`;
+  const close = () => app.take(withAdded(app.study, emptied(app).map((chair) => ({ kind: "close", chair }))));
+  const words = chairs.length === 1 ? "Close it" : "Close them";
+  return [`${which} no member now, and still count as open for the quorum. `,
+    button(words, close, { id: "close-emptied", live: true })];
+}
+
 /** Paints the list of changes, and the choices made when the table was read. */
 export function paintChanges(app: App): void {
   const { changes, base } = app.study;
   paintItems(app);
   byId("no-changes").hidden = changes.length > 0;
   byId("changes-title").textContent = changes.length ? `Changes (${changes.length})` : "Changes";
+  patch(byId("emptied"), emptiedWords(app));
   setDisabled(byId("clear-changes"), changes.length === 0, byId("changes-title"));
   byId("clear-changes").hidden = changes.length === 0;
   const choices = byId("choices");

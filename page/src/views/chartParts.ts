@@ -8,32 +8,22 @@ export function chartPlace(name: string): HTMLElement {
   return h("div", { class: "chart", tabindex: 0, role: "group", "aria-label": name });
 }
 
-/** The groups of a chart that can be pointed at. */
-export interface Pointed {
-  /** The attribute of the groups, and its values in order. */
-  readonly attribute: string;
-  readonly keys: readonly string[];
-  /** What is said of each. */
-  words(at: number): Child;
-}
-
 const STEP: Readonly<Record<string, number>> = { ArrowDown: 1, ArrowRight: 1, ArrowUp: -1, ArrowLeft: -1 };
 
-/** Shows what there is to say of a group of the chart beside the pointer, or beside the group at arrow keys. */
-export function pointAt(chart: HTMLElement, { attribute, keys, words }: Pointed): void {
-  let at = -1;
-  const mark = (next: number) => {
-    at = next;
-    for (const group of chart.querySelectorAll(`[${attribute}]`)) {
-      group.classList.toggle("pointed", group.getAttribute(attribute) === keys[at]);
-    }
+/** Shows what there is to say of a group of the chart beside the pointer, or beside the group at arrow keys. The
+ * groups are those with an attribute, in the order that they are drawn in when they are pointed at. */
+export function pointAt(chart: HTMLElement, attribute: string, words: (value: string) => Child): void {
+  const groups = () => [...chart.querySelectorAll(`[${attribute}]`)];
+  const isPointed = (it: Element) => it.classList.contains("pointed");
+  const show = (group: Element, x: number, y: number) => {
+    for (const it of groups()) it.classList.toggle("pointed", it === group);
+    const value = group.getAttribute(attribute) ?? "";
+    showTip(`${attribute} ${value}`, () => words(value), x, y);
   };
   const point = (event: PointerEvent | MouseEvent) => {
     const group = (event.target as Element).closest(`[${attribute}]`);
-    const next = keys.indexOf(group?.getAttribute(attribute) ?? "");
-    if (next < 0) return hideTip();
-    if (next !== at) mark(next);
-    showTip(`${attribute} ${keys[at]}`, () => words(at), event.clientX, event.clientY);
+    if (group) show(group, event.clientX, event.clientY);
+    else hideTip();
   };
   chart.addEventListener("pointermove", point);
   chart.addEventListener("click", point);
@@ -46,12 +36,11 @@ export function pointAt(chart: HTMLElement, { attribute, keys, words }: Pointed)
     const isScrolled = /Left|Right/.test(event.key) && chart.scrollWidth > chart.clientWidth;
     if (!step || isScrolled) return;
     event.preventDefault();
-    const next = Math.min(keys.length - 1, Math.max(0, at + step));
-    if (keys[next] === undefined) return;
-    mark(next);
-    const { left, top } = chart.querySelector(`[${attribute}="${keys[at]}"]`)?.getBoundingClientRect() ??
-      chart.getBoundingClientRect();
-    showTip(`${attribute} ${keys[at]}`, () => words(at), left + 40, top + 8);
+    const all = groups();
+    const next = all[Math.min(all.length - 1, Math.max(0, all.findIndex(isPointed) + step))];
+    if (!next) return;
+    const { left, top } = next.getBoundingClientRect();
+    show(next, left + 40, top + 8);
   });
 }
 

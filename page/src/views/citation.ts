@@ -1,4 +1,4 @@
-/** How to cite the version: a text and an entry of BibTeX, each with a button that copies it. */
+/** How to cite the version: a sentence and an entry of BibTeX, each with a button that copies it. */
 import type { App } from "./app";
 import { copy } from "../exports/clipboard";
 import { openDialog } from "./dialogs";
@@ -24,8 +24,8 @@ export function openCitation(app: App): void {
   openDialog("cite", "How to cite", () => {
     const place = h("div", {});
     const said = h("p", { id: "cite-words", role: "status" });
-    const made = citation(app, shown).then(({ text, bibtex }) => {
-      const children = [part("Text", "cite-text", text, said), part("BibTeX", "cite-bibtex", bibtex, said)];
+    const made = citation(shown).then(({ text, bibtex }) => {
+      const children = [part("Sentence", "cite-text", text, said), part("BibTeX", "cite-bibtex", bibtex, said)];
       place.append(h("div", {}, children), said);
     });
     made.catch((why: unknown) => {

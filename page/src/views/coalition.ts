@@ -2,11 +2,11 @@
 import type { App } from "./app";
 import { verdictOf, votesOf } from "../engine/coalitions";
 import { button, byId, h, paint, type Child } from "./dom";
-import { setDisabled } from "./focus";
+import { keepFocus } from "./focus";
+import { patch } from "./patch";
 import { counted, grouped } from "../study/fractions";
 import { screenLook } from "../charts/look";
 import type { Reading } from "../engine/reading";
-import { drawSizes } from "../charts/sizesChart";
 import { setTicked, ticked } from "../engine/ticks";
 import { MAJORITY } from "../study/words";
 import { chairList, lookedAt, type Looked } from "./coalitionParts";
@@ -21,21 +21,18 @@ const DEFINITIONS = [
   "All of this is made here from the chairs' votes, the quota and the least number of chairs, which are counted.",
 ];
 
-function tickBox(looked: Looked, chair: number, weight: number, isOn: boolean): HTMLElement {
-  const { app, shown, names } = looked;
-  const box: HTMLInputElement = h("input", {
-    type: "checkbox",
-    id: `tick-${chair}`,
-    checked: isOn,
-    onchange: () => {
-      const chairs = ticked(app, shown);
-      if (box.checked) chairs.add(chair);
-      else chairs.delete(chair);
-      tick(looked, chairs);
-    },
-  });
+/** Ticks the chairs that are found from those that are ticked now. */
+function tick(app: App, next: (now: Set<number>, looked: Looked) => Iterable<number>): void {
+  const looked = lookedAt(app);
+  if (!looked) return;
+  setTicked(app, looked.shown, new Set(next(ticked(app, looked.shown), looked)));
+  app.repaint();
+}
+
+function tickBox({ app, names }: Looked, chair: number, weight: number, isOn: boolean): HTMLElement {
+  const onchange = () => tick(app, (now) => (now.delete(chair) ? now : now.add(chair)));
   return h("label", { "data-chair": chair },
-    box,
+    h("input", { type: "checkbox", id: `tick-${chair}`, checked: isOn, live: true, onchange }),
     h("span", { class: "card-title" }, `${chair} `, h("bdi", {}, names.get(chair) ?? "")),
     h("span", { class: "number", title: "counted: WEIGHT" }, grouped(weight)),
   );
@@ -47,25 +44,16 @@ function largestMissing({ chairs }: Looked, coalition: ReadonlySet<number>): num
   return missing.slice(0, 1).map((it) => it.chair);
 }
 
-/** Ticks chairs, and shows what holds of them. */
-function tick(looked: Looked, coalition: ReadonlySet<number>): void {
-  setTicked(looked.app, looked.shown, coalition);
-  for (const { chair } of looked.chairs) byId<HTMLInputElement>(`tick-${chair}`).checked = coalition.has(chair);
-  setDisabled(byId<HTMLButtonElement>("tick-largest"), coalition.size === looked.chairs.length, byId("tick-none"));
-  byId("coalition-words").textContent = words(looked, coalition);
-  paint(byId("verdicts"), verdicts(looked, coalition));
-}
-
-function buttons(looked: Looked, coalition: ReadonlySet<number>): HTMLElement {
-  const { app, shown } = looked;
-  const all = looked.chairs.map((it) => it.chair);
-  const now = () => ticked(app, shown);
-  const add = () => tick(looked, new Set([...now(), ...largestMissing(looked, now())]));
+function buttons({ app, chairs }: Looked, coalition: ReadonlySet<number>): HTMLElement {
+  const all = (looked: Looked) => looked.chairs.map((it) => it.chair);
+  const act = (words: string, id: string, next: Parameters<typeof tick>[1], disabled = false) =>
+    button(words, () => tick(app, next), { id, disabled, live: true });
   return h("div", { class: "buttons", role: "group", "aria-label": "Ticks" },
-    button("All", () => tick(looked, new Set(all)), { id: "tick-all" }),
-    button("None", () => tick(looked, new Set()), { id: "tick-none" }),
-    button("The others", () => tick(looked, new Set(all.filter((it) => !now().has(it)))), { id: "tick-others" }),
-    button("Add the largest missing", add, { id: "tick-largest", disabled: coalition.size === all.length }),
+    act("All", "tick-all", (_, looked) => all(looked)),
+    act("None", "tick-none", () => []),
+    act("The others", "tick-others", (now, looked) => all(looked).filter((it) => !now.has(it))),
+    act("Add the largest missing", "tick-largest", (now, looked) => [...now, ...largestMissing(looked, now)],
+      coalition.size === chairs.length),
   );
 }
 
@@ -125,18 +113,17 @@ function verdicts(looked: Looked, coalition: ReadonlySet<number>): Child {
   );
 }
 
-/** Paints the tab. */
+/** Paints the tab, and keeps what is as it was. */
 export function paintCoalition(app: App): void {
   const looked = lookedAt(app);
   const panel = byId("panel");
   if (!looked) return paint(panel, h("p", {}, "No chair is open, so there is no coalition to look at."));
   const coalition = ticked(app, looked.shown);
-  const sizes = sizesPart(looked);
   const tickThem = (chairs: readonly number[]) => {
-    tick(looked, new Set(chairs));
+    tick(app, () => chairs);
     byId("coalition-words").scrollIntoView({ block: "nearest" });
   };
-  paint(panel,
+  const parts = [
     failures(looked),
     h("fieldset", { id: "ticks", class: "ticks" },
       h("legend", {}, `A coalition of chairs of ${looked.board}`),
@@ -147,7 +134,7 @@ export function paintCoalition(app: App): void {
     h("div", { id: "verdicts" }, verdicts(looked, coalition)),
     DEFINITIONS.map((it) => h("p", { class: "note" }, it)),
     h("div", { id: "smallest" }, smallestPart(looked, tickThem)),
-    sizes.parts,
-  );
-  drawSizes(sizes.chart, sizes.model, screenLook(app, sizes.chart));
+    sizesPart(looked, screenLook(app, panel)),
+  ];
+  keepFocus(panel, () => byId("tick-none"), () => patch(panel, parts));
 }

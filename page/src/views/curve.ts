@@ -1,17 +1,18 @@
 /** The tab Curve: a sweep, its chart, its thresholds, and its table. */
+import { percentage, wholeNumber, type Typed } from "../study/amounts";
 import type { App, Shown } from "./app";
 import { valueText } from "../engine/compare";
 import type { Curve } from "../engine/count";
 import { drawCurve, type CurveModel } from "../charts/curveChart";
 import { curveModel, FIRST_SWEEP, thresholdWords } from "../charts/curveModel";
-import { button, byId, choice, h, paint, type Child } from "./dom";
+import { button, byId, choice, h, type Child } from "./dom";
 import { fractionText, grouped, percent } from "../study/fractions";
 import { screenLook } from "../charts/look";
 import { isolated } from "../study/names";
 import { patch } from "./patch";
 import { chairIn, measureOf, readings, voteShare } from "../engine/reading";
 import type { SweepAsked } from "../study/study";
-import { MAJORITY, MEASURE } from "../study/words";
+import { MAJORITY, MEASURE, MOST_VOTES } from "../study/words";
 import { scriptDetails } from "./scriptDetails";
 import { openThresholds } from "./thresholds";
 import { standingOn, whoKey, whoOf, whoOptions, whoThere } from "./who";
@@ -22,8 +23,25 @@ function fieldsOf(app: App, shown: Shown): SweepAsked {
   return { ...asked, who: whoThere(standingOn(shown, asked.on), asked.who) };
 }
 
+const NUMBERS = ["from", "to", "by"] as const;
+
+/** The request with its numbers as plain decimals, or what is wrong with the first of them that isn't one. */
+function read(asked: SweepAsked): Typed<SweepAsked> {
+  const numbers: Record<string, string> = {};
+  for (const id of NUMBERS) {
+    const found = asked.unit === "percent" ? percentage(asked[id], "share") : wholeNumber(asked[id], MOST_VOTES);
+    if ("wrong" in found) return { wrong: `${id}: ${found.wrong}` };
+    numbers[id] = String(found.value);
+  }
+  return { value: { ...asked, ...numbers } };
+}
+
 /** Counts the sweep of the form: it becomes part of the study, if it isn't yet. */
-function run(app: App, asked: SweepAsked): void {
+function run(app: App, typed: SweepAsked): void {
+  const found = read(typed);
+  byId("sweep-wrong").textContent = "wrong" in found ? found.wrong : "";
+  if ("wrong" in found) return;
+  const asked = found.value;
   app.results.forgetProblems();
   app.open.sweep = null;
   app.view = { ...app.view, curveChair: null };
@@ -43,8 +61,6 @@ function form(app: App, shown: Shown): HTMLElement {
       id: `sweep-${id}`,
       class: "short",
       inputmode: "decimal",
-      required: true,
-      pattern: "[0-9]{1,13}(\\.[0-9]{1,9})?",
       title: "a number without a sign, such as 10 or 0.5",
       value: asked[id],
       live: true,
@@ -73,6 +89,7 @@ function form(app: App, shown: Shown): HTMLElement {
     ),
     h("button", { id: "sweep-run" }, "Count the sweep"),
     button("Find thresholds…", () => openThresholds(app, now().who, now().on), { id: "find-open", live: true }),
+    h("p", { id: "sweep-wrong", class: "wrong", role: "alert" }),
   );
 }
 
@@ -125,6 +142,7 @@ function results(app: App, model: CurveModel, found: Curve): Child {
     type: "checkbox",
     id: "sweep-votes",
     checked: app.view.curveVotes,
+    live: true,
     onchange: () => app.look({ curveVotes: votes.checked }),
   });
   const marks = found.thresholds.map((it) => h("li", {}, thresholdWords(it, app.view.digits)));
@@ -148,22 +166,22 @@ function sweepWords(app: App): string {
   return `${points} were counted in ${sweep.milliseconds.toFixed(0)} ms${workers}.`;
 }
 
-/** Paints the tab. Its form stays while the board changes; what it says is built from scratch. */
+/** Paints the tab, and keeps what is as it was. While a sweep is counted again, what is shown of it is grey. */
 export function paintCurve(app: App): void {
-  const { shown, curve } = app;
+  const { shown, curve, sweep } = app;
   if (!shown) return;
-  const model = curveModel(app);
   const panel = byId("panel");
   panel.dataset["sweep"] = curve ? curve.milliseconds.toFixed(0) : "";
-  if (!panel.firstChild) paint(panel, ["sweep-form", "sweep-results"].map((id) => h("div", { id })));
+  if (!panel.firstChild) panel.append(...["sweep-form", "sweep-results"].map((id) => h("div", { id })));
   patch(byId("sweep-form"), form(app, shown), h("p", { id: "sweep-words", role: "status" }, sweepWords(app)));
+  const place = byId("sweep-results");
+  const isCounting = shown.study.sweep !== null && !sweep;
+  place.classList.toggle("old", isCounting);
+  if (isCounting) return;
+  const model = curveModel(app);
   const chart = h("div", { class: "chart" });
-  paint(byId("sweep-results"),
-    model && curve && [results(app, model, curve), chart, tableOf(app, model, curve), source(curve)]);
-  if (model) drawCurve(chart, model, screenLook(app, chart));
-}
-
-/** The script of the sweep, which gives its numbers. */
-function source({ script }: Curve): HTMLElement {
-  return scriptDetails("sweep-script", "this sweep", script);
+  if (model) drawCurve(chart, model, screenLook(app, panel));
+  const script = () => app.curve?.script ?? "";
+  patch(place, model && curve && [results(app, model, curve), chart, tableOf(app, model, curve),
+    scriptDetails("sweep-script", "this sweep", script)]);
 }

@@ -109,8 +109,14 @@ function columnChoices(app: App): Child {
   ];
 }
 
-/** Why a view has no columns of its own now, or which are missing. */
-function columnsNote({ view, study }: App, { isOne, waiting }: Columns): string {
+const OTHER_SIZES =
+  "The boards that are compared have different numbers of chairs, so different numbers of coalitions: more swings " +
+  "don't mean more power there. Compare shares of power.";
+
+/** Why a view has no columns of its own now, which are missing, or that what is compared isn't alike. */
+function columnsNote({ view, study }: App, { isOne, waiting, base, list }: Columns): string {
+  const sizes = new Set([base, ...list].map((it) => it.standing.open().length));
+  if (view.measure === "swings" && sizes.size > 1) return OTHER_SIZES;
   if (waiting) return `${waiting} of the columns are being counted.`;
   if (!isOne || view.columns === "changed") return "";
   if (view.columns === "scenarios") return "No scenario is kept yet: give the list of changes a name under Scenarios.";
@@ -178,6 +184,6 @@ export function paintFigures(app: App): void {
   byId("columns-words").textContent = columnsNote(app, columns);
   app.part("tab", [tab, open.isPrinting], () => byId("panel").replaceChildren());
   const isDark = matchMedia("(prefers-color-scheme: dark)").matches;
-  const look = [innerWidth, isDark, open.isPrinting, open.isTableOpen];
+  const look = [innerWidth, isDark, open.isPrinting, open.isTableOpen, open.ticks];
   app.part("panel", [shown, view, results.version, app.sweep, ...look], () => TAB[tab].draw(app, columns));
 }

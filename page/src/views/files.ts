@@ -4,8 +4,10 @@ import { grouped } from "../study/fractions";
 import { Cancelled } from "../engine/pausing";
 import { Refusal } from "../engine/problem";
 import { scriptOf } from "../study/script";
+import { hashOf } from "../study/made";
 import { isData, readData, type StudyData } from "../study/studyData";
 import { studyOf, type Base } from "../study/study";
+import { checkSize } from "../tables/limits";
 import { isHtml, openedFile, sourceOfHtml, sourceOfText, type OpenedFile } from "../tables/sources";
 import { reasonOf } from "../study/words";
 import { refuse } from "./refusal";
@@ -19,11 +21,11 @@ function parsed(text: string, type: "text/html" | "application/xml"): Document {
 }
 
 /** Reads a page that this page has exported, or the tables of another one. */
-function takePage(app: App, html: string, name: string): void {
+async function takePage(app: App, html: string, name: string): Promise<void> {
   if (!/\bid="study-data"/.test(html)) return openTable(app, sourceOfHtml(html, name, parsed));
   const data = readData(parsed(html, "text/html").getElementById("study-data")?.textContent ?? "null");
   if (!data) throw new Error("the page has no study in it");
-  takeData(app, data);
+  await takeData(app, data);
 }
 
 function choicesOf(isOwn: boolean, long: number): string[] {
@@ -52,16 +54,30 @@ async function takeScript(app: App, given: string, name: string): Promise<void> 
   app.openStudy(studyOf(name, base, changes), { ...app.view, majorities, orderAt: majorities[0] ?? "half" });
 }
 
-function takeData(app: App, { study, view }: StudyData): void {
+const OTHER_SCRIPT =
+  "The study was changed after it was saved: its script no longer has the hash that the file names. What is shown is " +
+  "counted from the file as it is now, and no longer names the table that it came from.";
+
+/** Says so if a study that is shown hasn't the script that it was saved with, and forgets the hash of its table. */
+export async function checkScript(app: App, scriptHash = ""): Promise<void> {
+  await app.counting;
+  const { shown, study } = app;
+  if (!scriptHash || shown?.study !== study || await hashOf(shown.counted.script) === scriptHash) return;
+  const choices = [...study.base.choices, OTHER_SCRIPT];
+  app.openStudy({ ...study, base: { ...study.base, hash: "", choices } }, app.view);
+  refuse(OTHER_SCRIPT);
+}
+
+async function takeData(app: App, { study, view, scriptHash }: StudyData): Promise<void> {
   app.openStudy(study, view);
+  await checkScript(app, scriptHash);
 }
 
 /** Reads a saved study, and the script if it came with it. */
 async function takeBeside(app: App, json: string, script: string | null): Promise<void> {
   const data = readData(json);
   if (!data) throw new Error("the file has no study in it");
-  takeData(app, data);
-  await app.counting;
+  await takeData(app, data);
   if (script === null || app.shown?.counted.script === script) return;
   refuse("The script and the file next to it are not of one study.", "The file's study is shown.");
 }
@@ -77,7 +93,7 @@ function isScript(text: string): boolean {
 }
 
 async function takeText(app: App, text: string, name: string, notices: readonly string[]): Promise<void> {
-  if (isHtml(text)) takePage(app, text, name);
+  if (isHtml(text)) await takePage(app, text, name);
   else if (isData(text)) await takeBeside(app, text, null);
   else if (isScript(text)) await takeScript(app, text, name);
   else openTable(app, sourceOfText(text, name, notices));
@@ -108,6 +124,7 @@ export function refusePaste(title: string): void {
 }
 
 async function opened(file: File): Promise<OpenedFile> {
+  checkSize(file.size);
   return openedFile(await file.arrayBuffer(), bareName(file.name), parsed);
 }
 

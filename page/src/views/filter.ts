@@ -18,6 +18,20 @@ export function namesChair(filter: string, chair: number, name: string | undefin
   return wanted !== "" && folded(name ?? "").includes(wanted);
 }
 
+/** The members that a list names, each by its whole code or name, and the names that aren't of exactly one. */
+export function listedMembers(
+  text: string,
+  members: readonly { readonly code: string; readonly name: string }[],
+): { readonly codes: ReadonlySet<string>; readonly unknown: readonly string[] } {
+  const names = text.split(/[\n\t,;]+/).map((it) => it.trim()).filter((it) => it !== "");
+  const found = names.map((name) => {
+    const wanted = folded(name);
+    const all = members.filter(({ code, name: own }) => folded(code) === wanted || folded(own) === wanted);
+    return all.length === 1 ? all[0]?.code ?? null : null;
+  });
+  return { codes: new Set(found.flatMap((it) => it ?? [])), unknown: names.filter((_, at) => found[at] === null) };
+}
+
 /** Whether a filter names a member, by a part of its code and name. */
 export function namesMember(filter: string, code: string, name: string): boolean {
   return folded(`${code} ${name}`).includes(folded(filter));

@@ -1,14 +1,14 @@
 /** The dialogs of operations: merging, splitting and dissolving a chair, and votes of several members in per cent. */
-import { percentage } from "../study/amounts";
+import { percentage, type Typed } from "../study/amounts";
 import type { App } from "./app";
 import { changeWords, refusalWords } from "../study/commandWords";
 import { openDialog } from "./dialogs";
-import { button, byId, h, type Child } from "./dom";
+import { button, byId, choice, h, type Child } from "./dom";
 import { counted } from "../study/fractions";
 import { lastOutcome, say } from "./moves";
 import { isolated, listed, memberWords } from "../study/names";
 import { chairChoices, closedChair, type Place } from "../engine/standing";
-import { withAdded, type Operation, type Scale } from "../study/study";
+import { withAdded, type Operation, type Scale, type Share } from "../study/study";
 import { CHAIRS, MOST_CHAIRS } from "../study/words";
 import { choiceForm, fieldForm, readField } from "./field";
 import { memberTicks } from "./ticks";
@@ -95,6 +95,40 @@ function splitForm(app: App, id: string, codes: Codes, close: () => void): Child
   });
 }
 
+/** A form that moves members to an open chair, or to none. */
+function joinForm(app: App, id: string, codes: Codes, close: () => void): Child {
+  const open = app.shown ? chairChoices(app.shown.counted.standing) : [];
+  return choiceForm(id, "An open chair", [...open, ["none", "no chair"]], "Move", (choice) => {
+    const found = codes();
+    if (!found) return;
+    close();
+    void operate(app, { kind: "join", codes: found, to: choice === "none" ? null : Number(choice) }, choice);
+  });
+}
+
+const OTHERS: readonly (readonly [Share["others"], string])[] = [
+  ["pay", "pay for it in proportion"], ["keep", "keep their votes"],
+];
+
+/** A form that gives members a share of the total voting power together. */
+function shareForm(app: App, id: string, codes: Codes, close: () => void): Child {
+  let others: Share["others"] = "pay";
+  const read = (text: string): Typed<string> => {
+    const found = percentage(text, /^\s*[-+\u2212]/.test(text) ? "change" : "share");
+    return "value" in found && Number(found.value) >= 100 ? { wrong: "A share is below 100 per cent." } : found;
+  };
+  const label = "Per cent of the total together, or with a sign points more or less";
+  const field = readField(`${id}-share`, label, read, { placeholder: "20 or +6" });
+  const form = fieldForm(field, "Give the share", (percent) => {
+    const found = codes();
+    if (!found) return;
+    close();
+    void operate(app, { kind: "share", codes: found, percent, others }, "");
+  });
+  const choose = (it: string) => (others = it === "keep" ? "keep" : "pay");
+  return [choice(`${id}-others`, "The others", OTHERS, others, choose), form];
+}
+
 /** A form for votes plus or minus per cent. */
 function scaleForm(app: App, id: string, of: () => Scale["of"] | null, place: string, close: () => void): Child {
   const read = (text: string) => percentage(text, "change");
@@ -129,7 +163,7 @@ function openTicked(
   forms: (codes: Codes, close: () => void) => Child,
 ): void {
   openDialog(id, title, (close) => {
-    const suspended = h("p", { class: "wrong", role: "status" });
+    const suspended = h("p", { id: `${id}-suspended`, class: "wrong", role: "status" });
     const wrong = h("p", { id: `${id}-wrong`, class: "wrong", role: "alert" });
     const ticks = memberTicks(app, id, members, (ticked) => {
       wrong.textContent = "";
@@ -159,8 +193,13 @@ export function openGroup(app: App): void {
     h("h3", {}, "Their votes"),
     scaleForm(app, "group", codes, "", close),
     h("p", { class: "note" }, ROUNDED),
-    h("h3", {}, "A chair of their own"),
+    h("h3", {}, "A share of the total for all of them"),
+    shareForm(app, "group", codes, close),
+    h("p", { class: "note" }, "They keep their proportions. The votes are whole, and are shared out by the largest " +
+      "remainders."),
+    h("h3", {}, "Their chair"),
     splitForm(app, "group", codes, close),
+    joinForm(app, "group-join", codes, close),
   ]);
 }
 

@@ -1,21 +1,16 @@
 /** The winning coalitions by their number of chairs: the chart's place, readout and table, and the check of sums. */
+import type { Look } from "../charts/charts";
+import { drawSizes } from "../charts/sizesChart";
 import { h, type Child } from "./dom";
 import { counted, fractionText, grouped, percent } from "../study/fractions";
 import { checkWords, shareOfSize, sizesModel, type SizesModel } from "../engine/sizes";
 import { MAJORITY, type Majority } from "../study/words";
 import { chartPlace, pointAt, tableBehind } from "./chartParts";
-import type { Looked } from "./coalitionParts";
+import { lookedAt, type Looked } from "./coalitionParts";
 
 const NOTE =
   "How many coalitions of each number of chairs win, and how many there are, made here. The winning ones of all " +
   "numbers of chairs are added up, and the register counts them on its own.";
-
-/** The chart's place and its model, and all parts around it. */
-export interface SizesPart {
-  readonly chart: HTMLElement;
-  readonly model: SizesModel;
-  readonly parts: Child;
-}
 
 function modelOf({ shown }: Looked): SizesModel {
   return sizesModel(shown.counted.after);
@@ -92,21 +87,21 @@ function tableOf(looked: Looked, model: SizesModel): HTMLElement {
 }
 
 /** The part of the tab with the winning coalitions by size. */
-export function sizesPart(looked: Looked): SizesPart {
+export function sizesPart(looked: Looked, look: Look): Child {
+  const { app } = looked;
   const model = modelOf(looked);
   const chart = chartPlace("Chart of the numbers of chairs; arrow keys go through them");
-  pointAt(chart, {
-    attribute: "data-size",
-    keys: model.all.map((_, size) => String(size)),
-    words: (size) => sizeWords(looked, model, size),
+  pointAt(chart, "data-size", (size) => {
+    const now = lookedAt(app);
+    return now && sizeWords(now, modelOf(now), Number(size));
   });
+  drawSizes(chart, model, look);
   const said = checks(looked).map((it) => h("li", { class: it.holds ? "" : "alarm" }, it.words));
-  const parts = [
+  return [
     h("h3", {}, "Winning coalitions by number of chairs"),
     h("p", { class: "note" }, NOTE),
     h("ul", { id: "size-checks" }, said),
     chart,
-    tableBehind(looked.app, () => tableOf(looked, model)),
+    tableBehind(app, () => tableOf(looked, model)),
   ];
-  return { chart, model, parts };
 }

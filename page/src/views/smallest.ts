@@ -1,6 +1,6 @@
 /** The smallest winning coalitions with a chair, and the chairs that have a veto. */
-import { smallestWith, subsetsWithout, vetoChairs, votesOf, type Smallest } from "../engine/coalitions";
-import { button, byId, choice, h, paint, type Child } from "./dom";
+import { blockingRule, smallestWith, subsetsWithout, vetoChairs, votesOf, type Smallest } from "../engine/coalitions";
+import { button, choice, h, type Child } from "./dom";
 import { counted, grouped } from "../study/fractions";
 import { isolated } from "../study/names";
 import type { Reading } from "../engine/reading";
@@ -12,19 +12,21 @@ const MOST_LISTED = 20;
 
 type TickThem = (chairs: readonly number[]) => void;
 
-/** A reading, and its smallest winning coalitions with the chosen chair. */
+/** A reading, and its smallest winning or blocking coalitions with the chosen chair. */
 interface Found {
   readonly reading: Reading;
+  readonly isBlocking: boolean;
   readonly smallest: Smallest | null;
 }
 
 function tableOf(looked: Looked, chair: number, found: readonly Found[]): HTMLElement {
-  const heads = ["Least number of chairs", "Winning coalitions with this number"];
+  const { isBlocking } = looked.app.open.ticks;
+  const heads = ["Least number of chairs", ...isBlocking ? [] : ["Winning coalitions with this number"]];
   const rows = found.map(({ reading: { majority }, smallest }) =>
     h("tr", { "data-majority": majority },
       h("th", { scope: "row", class: "text" }, MAJORITY[majority].label),
       h("td", {}, smallest ? String(smallest.size) : "none wins"),
-      h("td", {}, smallest ? grouped(smallest.many) : "0"),
+      isBlocking ? null : h("td", {}, smallest ? grouped(smallest.many) : "0"),
     ),
   );
   return h("div", { class: "scroll" },
@@ -49,13 +51,14 @@ function rowOf(looked: Looked, coalition: readonly number[], at: number, tickThe
 }
 
 /** Which of the coalitions are listed. */
-function listWords({ reading: { majority }, smallest }: Found): string {
+function listWords({ reading: { majority }, isBlocking, smallest }: Found): string {
   const { at } = MAJORITY[majority];
   if (!smallest) return `${at} no coalition wins.`;
   const { many, size } = smallest;
   const chairs = counted(size, "chair");
   if (many === 1) return `${at}: the only one with ${chairs}.`;
-  const which = many > MOST_LISTED ? `the first ${MOST_LISTED} of ${grouped(many)}` : `all ${many}`;
+  const some = `the first ${MOST_LISTED}${isBlocking ? "" : ` of ${grouped(many)}`}`;
+  const which = many > MOST_LISTED ? some : `all ${many}`;
   return `${at}: ${which} with ${chairs}, in order of their chairs' numbers.`;
 }
 
@@ -91,17 +94,35 @@ function vetoes(looked: Looked): Child {
   ];
 }
 
-/** The choice of a chair and a majority. */
-function choices(looked: Looked, chair: number, tickThem: TickThem): HTMLElement {
+/** How many coalitions block at each majority: the complement of one that blocks loses, so as many block as lose. */
+function blocking({ readings }: Looked): Child {
+  const items = readings.map(({ majority, coalitions, winning }) =>
+    h("li", { "data-majority": majority, title: "made here: COALITIONS less WINNING" },
+      `${MAJORITY[majority].at} ${grouped(coalitions - winning)} of ${grouped(coalitions)} coalitions can block.`));
+  return [
+    h("h3", {}, "Coalitions that can block"),
+    h("p", { class: "note" }, "As many coalitions can block as lose, since all chairs outside of one that can block " +
+      "lose together. Made here, from the counted numbers of coalitions."),
+    h("ul", { id: "blocking" }, items),
+  ];
+}
+
+/** The choice of a chair, of a majority, and of coalitions that win or that can block. */
+function choices(looked: Looked, chair: number): HTMLElement {
   const { app, chairs, names, readings } = looked;
   const { at } = app.open.ticks;
   const options = chairs.map((it) => [String(it.chair), `${it.chair} ${isolated(names.get(it.chair) ?? "")}`] as const);
   const ats = readings.map((it) => [it.majority, MAJORITY[it.majority].label] as const);
   const again = (part: Partial<typeof app.open.ticks>) => {
     app.open.ticks = { ...app.open.ticks, ...part };
-    paint(byId("smallest"), smallestPart(looked, tickThem));
+    app.repaint();
   };
+  const kinds = [["winning", "that win"], ["blocking", "that can block"]] as const;
+  const { isBlocking } = app.open.ticks;
   return h("div", { class: "choices" },
+    choice("smallest-kind", "Coalitions", kinds, isBlocking ? "blocking" : "winning", (it) => {
+      again({ isBlocking: it === "blocking" });
+    }),
     choice("smallest-chair", "With chair", options, String(chair), (it) => again({ chair: Number(it) })),
     choice("smallest-at", "list at", ats, readingAt(looked, at)?.majority ?? "", (text) => {
       again({ at: MAJORITIES.find((it) => it === text) ?? null });
@@ -114,14 +135,19 @@ export function smallestPart(looked: Looked, tickThem: TickThem): Child {
   const { app: { open: { ticks } }, chairs, readings } = looked;
   const { chair = 0 } = chairs.find((it) => it.chair === ticks.chair) ?? chairs[0] ?? {};
   const others = subsetsWithout(chairs, chair);
-  const found = readings.map((reading) => ({ reading, smallest: smallestWith(reading, chair, others, MOST_LISTED) }));
+  const { isBlocking } = ticks;
+  const found = readings.map((reading): Found => {
+    const rule = isBlocking ? blockingRule(reading, chair) : reading;
+    return { reading, isBlocking, smallest: smallestWith(rule, chair, others, MOST_LISTED) };
+  });
   const listed = found.find((it) => it.reading === readingAt(looked, ticks.at));
   return [
-    h("h3", {}, "Smallest winning coalitions"),
-    h("p", { class: "note" }, "Of all winning coalitions with a chair, those with the fewest chairs."),
-    choices(looked, chair, tickThem),
+    h("h3", {}, "Smallest coalitions"),
+    h("p", { class: "note" }, "Of all coalitions with a chair that win or can block, those with the fewest chairs."),
+    choices(looked, chair),
     tableOf(looked, chair, found),
     listed ? listOf(looked, listed, tickThem) : null,
     vetoes(looked),
+    blocking(looked),
   ];
 }

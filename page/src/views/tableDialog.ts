@@ -14,7 +14,8 @@ import type { Source } from "../tables/sources";
 import { strictTable } from "../tables/strict";
 import { DELIMITER_WORDS, DELIMITERS, sheetOf, sheetOfCells } from "../tables/text";
 import {
-  MEANING_WORDS, MEANINGS, NO_ANSWERS, type Answers, type Layout, type Meaning, type Question, type ReadTable,
+  MEANING_WORDS, MEANINGS, NO_ANSWERS, type Answers, type AskedNumber, type Layout, type Meaning, type Question,
+  type ReadTable,
   type Sheet,
 } from "../tables/types";
 
@@ -78,7 +79,11 @@ class Preview {
 }
 
 /** A question with its options. It has a thick border while it is open. */
-function questionField(question: Omit<Question, "kind" | "row" | "choice">, take: (key: string) => void): HTMLElement {
+function questionField(
+  question: Pick<Question, "id" | "words" | "options" | "answer">,
+  take: (key: string) => void,
+  more: Child = null,
+): HTMLElement {
   const { id, words, options, answer } = question;
   const radio = (key: string, text: string) => {
     const own = `${id}-${key}`;
@@ -94,7 +99,18 @@ function questionField(question: Omit<Question, "kind" | "row" | "choice">, take
     { id, class: answer === null ? "question open" : "question" },
     h("legend", {}, words),
     options.map(({ key, words: text }) => radio(key, text)),
+    more,
   );
+}
+
+/** The field of a number that belongs to a question. */
+function numberField(id: string, { low, high, value }: AskedNumber, take: (number: string) => void): HTMLElement {
+  const field: HTMLInputElement = h("input", {
+    id: `${id}-number`, type: "number", min: low, max: high, value, class: "short",
+    onchange: () => take(field.value),
+  });
+  const words = `From ${grouped(low)} to ${grouped(high)}`;
+  return h("label", { class: "choice", for: field.id }, h("span", {}, words), field);
 }
 
 /** The question which of several sheets has the table. */
@@ -113,10 +129,14 @@ function sheetQuestion(preview: Preview, again: () => void): Child {
 }
 
 function questions(preview: Preview, read: ReadTable, again: () => void): Child {
-  return read.questions.map((question) => questionField(question, (key) => {
-    preview.answer(question.id, key);
+  const answer = (id: string) => (key: string) => {
+    preview.answer(id, key);
     again();
-  }));
+  };
+  return read.questions.map((it) => {
+    const field = it.number && numberField(it.id, it.number, answer(`${it.id}-number`));
+    return questionField(it, answer(it.id), field);
+  });
 }
 
 function faultList(preview: Preview, read: ReadTable, again: () => void): Child {

@@ -74,7 +74,7 @@ function answer(app: App, shown: Shown, all: Thresholds, said: HTMLElement): Chi
     tableOf(app, all),
     sentencesOf(app, all),
     h("div", { class: "buttons" }, button("Copy as text", act, { id: "find-copy" })),
-    scriptDetails("find-script", "these thresholds", all.script),
+    scriptDetails("find-script", "these thresholds", () => all.script),
   ];
 }
 

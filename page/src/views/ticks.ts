@@ -2,8 +2,9 @@
 import type { App } from "./app";
 import { memberWords } from "../study/commandWords";
 import { button, h, type Child } from "./dom";
-import { namesChair, namesMember } from "./filter";
+import { listedMembers, namesChair, namesMember } from "./filter";
 import { grouped } from "../study/fractions";
+import { isolated, listed } from "../study/names";
 import type { Place } from "../engine/standing";
 
 /** Members that can be ticked: the elements of the list, and the members that are ticked. */
@@ -56,8 +57,18 @@ export function memberTicks(
     for (const { member, element } of rows) element.hidden = !isFound(app, filter.value, member);
   };
   const filter = h("input", { id: `${id}-filter`, type: "search", autocomplete: "off", oninput: sift });
+  const unknown = h("p", { id: `${id}-unknown`, class: "wrong", role: "status" });
+  const tickListed = () => {
+    const found = listedMembers(pasted.value, members);
+    for (const { member, box } of rows) box.checked = found.codes.has(member.code);
+    const names = found.unknown.map((it) => `“${isolated(it)}”`);
+    unknown.textContent = names.length ? `No member, or more than one, has this code or name: ${listed(names)}.` : "";
+    tell();
+  };
+  const pasted = h("textarea", { id: `${id}-list`, rows: 2, placeholder: "XAA, XAB or names", oninput: tickListed });
   tell();
   const content = [
+    h("label", { class: "choice", for: pasted.id }, h("span", {}, "Paste a list of codes or names"), pasted), unknown,
     h("label", { class: "choice", for: filter.id }, h("span", {}, "Filter members"), filter),
     h("ul", { class: "ticks", "aria-label": "Members" }, rows.map(({ element }) => element)),
     h("div", { class: "buttons" },

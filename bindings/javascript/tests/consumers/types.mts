@@ -10,6 +10,7 @@ const name: string | null | undefined = indices({ Alpha: 50 }, "half").chairs[0]
 indices(new Map([["Alpha", 50]]), "half");
 const omega: number = indicesOfMembers([{ votes: 1, chair: null }], "85", { openChairs: [1] }).omega;
 indicesOfMembers({ votes: [1, 2n], chair: [1, null], suspended: [true, false] }, "quorum");
+const quorum: number = indicesOfMany([[1]])[0]!.quorum.omega;
 const half: number = indicesOfMany([[1], { A: 1 }], ["half", "85"])[0]!.half.omega;
 
 const registers: Register[] = [

@@ -4,22 +4,32 @@ from __future__ import annotations
 import argparse
 import io
 import os
+import re
 import shlex
 import sys
 from collections.abc import Callable, Iterable, Sequence
 from pathlib import Path
 
 from .amounts import BadStudy
+from .files import resolved
 from .names import MAJORITIES
 
-#: How a file that the commands write may begin: a table, the page, and a figure.
-TABLE, PAGE, SVG, PDF = "(scenario|reading),", r"<!DOCTYPE html>.*id=\"study-data\"", r"<\?xml.*board-", "%PDF-"
+#: What the commands write into a table, the page, and a figure.
+TABLE, SVG, PDF = "# counted by board ", r"<\?xml.*voting-board board-", "%PDF-.*voting-board board-"
+PAGE = r'<!DOCTYPE html>.*id="study-data">\{"format": "board study [0-9]+", "provenance": \["counted by board '
+#: The most bytes of a file that is read.
+MOST_BYTES = 32 * 1024 * 1024
+
+
+def printable(text: str) -> str:
+    """A text for a terminal. Control characters of names and labels, which a terminal obeys, are written as escapes."""
+    return re.sub(r"[\x00-\x08\x0b-\x1f\x7f-\x9f]", lambda found: f"\\x{ord(found[0]):02x}", text)
 
 
 def say(command: str, lines: Iterable[str]) -> None:
     """Writes lines to standard error, each with the command's name."""
     for line in lines:
-        print(f"{command}: {line}", file=sys.stderr)
+        print(printable(f"{command}: {line}"), file=sys.stderr)
 
 
 def ended(parser: argparse.ArgumentParser, make: Callable[[argparse.Namespace], None]) -> int:
@@ -56,8 +66,14 @@ def out_name(text: str) -> str:
 
 
 def read_bytes(name: str) -> bytes:
-    """The bytes of a file, or of standard input for -."""
-    return sys.stdin.buffer.read() if name == "-" else Path(name).read_bytes()
+    """The bytes of a file, or of standard input for -. A pipe or a device is a BadStudy, and so is a large file."""
+    if name != "-" and Path(name).exists() and not Path(name).is_file():
+        raise BadStudy(f"{name} is no file; - is standard input")
+    with sys.stdin.buffer if name == "-" else open(name, "rb") as file:
+        data = file.read(MOST_BYTES + 1)
+    if len(data) > MOST_BYTES:
+        raise BadStudy(f"{name} has more than {MOST_BYTES:,} bytes")
+    return data
 
 
 def command_words(command: str, words: Sequence[str], paths: Iterable[object]) -> str:
@@ -97,7 +113,7 @@ def counted(count: int, noun: str) -> str:
 
 def check_names(paths: Iterable[Path]) -> None:
     """Checks that no two files have one place."""
-    places = [it.resolve() for it in paths]
+    places = list(map(resolved, paths))
     for at, it in enumerate(places):
         if it in places[:at]:
             raise BadStudy(f"two files would have the place of {it.name}")

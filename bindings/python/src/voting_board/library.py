@@ -8,8 +8,12 @@ from collections.abc import Callable
 from ctypes import c_char, c_size_t, c_uint8, c_uint32, c_uint64, c_void_p
 from functools import partial
 from pathlib import Path
+from typing import TYPE_CHECKING
 
 from .names import VERSION
+
+if TYPE_CHECKING:
+    from .chair_names import ChairNames
 
 HERE = Path(__file__).resolve().parent
 NAMES = ("libboard.so", "libboard.dylib", "board.dll")
@@ -150,14 +154,14 @@ rooms = Rooms()
 
 
 class Handle:
-    """A board_register, which is freed with this object. Its words are never copied.
+    """A board_register, which is freed with this object, and the names of its chairs. Its words are never copied.
 
     `__del__` is a call of the library, not a function of Python, in which an interrupt would be lost."""
 
-    __slots__ = ("words", "is_usable", "__del__")
+    __slots__ = ("words", "names", "is_usable", "__del__")
 
-    def __init__(self) -> None:
-        self.is_usable = True
+    def __init__(self, names: ChairNames) -> None:
+        self.is_usable, self.names = True, names
         self.words = (c_uint64 * 2)()
         self.__del__: Callable[[], object] = partial(short.board_register_free, self.words)
 

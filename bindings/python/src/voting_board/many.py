@@ -7,7 +7,7 @@ from collections.abc import Callable, Iterable, Iterator, Sequence
 from concurrent.futures import ThreadPoolExecutor
 from ctypes import addressof
 from dataclasses import dataclass, field
-from functools import partial
+from functools import cached_property, partial
 from itertools import repeat
 from typing import TYPE_CHECKING, Any, Optional, TypeVar, Union
 
@@ -15,7 +15,7 @@ from .boards import sheet_of
 from .library import COUNT_WORDS, FIRST_ROW, ROW_WORDS, SHEET_WORDS, long, rooms
 from .names import ALLOWED, MAJORITIES, Majority
 from .refusals import check_done
-from .results import INDEX_NAMES, Cell, IndexName, Indices
+from .results import INDEX_NAMES, Indices
 from .values import Weights, Whole, items_of, number_of, total_of, weights_of, wrong_type
 
 if TYPE_CHECKING:
@@ -52,6 +52,8 @@ class ManyIndices:
     least_size: the least number of chairs that can win, by board and majority
     omega: the number of winning coalitions, by board and majority
     swings: the swings, by board, majority and chair
+    banzhaf, share, prevent, initiate: the indices as floats, by board, majority and chair
+    act: the power of the board to act as a float, by board and majority
     names: the names of the chairs of each board, where its row had names
     """
 
@@ -85,38 +87,73 @@ class ManyIndices:
     def __iter__(self) -> Iterator[dict[Majority, Indices]]:
         return map(self.__getitem__, range(len(self)))
 
-    def floats(self, index: IndexName) -> Floats:
-        """An index of each chair as floats, by board, majority and chair; nan where it is None or there is no chair.
-
-        index: "banzhaf", "share", "prevent" or "initiate"; another one is a ValueError
-        """
-        if index not in INDEX_NAMES:
-            raise ValueError(f"no index {index!r}: {', '.join(INDEX_NAMES)}")
-        width, found = max(map(int, self.chairs), default=0), array("d")
-        for counts in self:
-            for majority in self.majorities:
-                values = counts[majority].values(index)
-                found.extend(values)
-                found.extend(repeat(float("nan"), width - len(values)))
+    def _floats(self, divisors: Iterable[Sequence[int]]) -> Floats:
+        """The swings over divisors by board and majority; nan where a divisor is 0, or where there is no chair."""
+        width, nan, found = max(map(int, self.chairs), default=0), float("nan"), array("d")
+        for many, rows, over in zip(self.chairs.tolist(), self.swings.tolist(), divisors):
+            for swings, divisor in zip(rows, over):
+                found.extend([it / divisor for it in swings[:many]] if divisor else repeat(nan, many))
+                found.extend(repeat(nan, width - many))
         floats: Floats = shaped(found, len(self), len(self.majorities), width)
+        return floats
+
+    def _coalitions(self) -> Iterator[tuple[int, list[int]]]:
+        """For each board the number of coalitions, and that of those that win by each majority."""
+        return zip((2**many for many in self.chairs.tolist()), self.omega.tolist())
+
+    @cached_property
+    def banzhaf(self) -> Floats:
+        """The Banzhaf measure of each chair as a float, by board, majority and chair; nan where there is no chair."""
+        return self._floats([all // 2] * len(omega) for all, omega in self._coalitions())
+
+    @cached_property
+    def share(self) -> Floats:
+        """The normalised Banzhaf index, likewise; nan also where no chair has a swing."""
+        return self._floats([sum(swings) for swings in rows] for rows in self.swings.tolist())
+
+    @cached_property
+    def prevent(self) -> Floats:
+        """Coleman's power to prevent action, likewise; nan also where no coalition wins."""
+        return self._floats(self.omega.tolist())
+
+    @cached_property
+    def initiate(self) -> Floats:
+        """Coleman's power to initiate action, likewise."""
+        return self._floats([all - it for it in omega] for all, omega in self._coalitions())
+
+    @cached_property
+    def act(self) -> Floats:
+        """Coleman's power of each board to act as a float, by board and majority."""
+        found = array("d", [it / all for all, omega in self._coalitions() for it in omega])
+        floats: Floats = shaped(found, len(self), len(self.majorities))
         return floats
 
     def to_dataframe(self, *, floats: bool = True) -> DataFrame:
         """A table of pandas with a row for each chair of each board at each majority: board (counted from 0), majority,
         chair, name (if any chair has one), weight, swings, and the indices as floats. With `floats=False` they are
         exact fractions, as in the table of an `Indices`."""
+        import numpy
         from pandas import DataFrame
 
-        rows: list[dict[str, Cell]] = [
-            {"board": board, "majority": majority, **record}
-            for board, counts in enumerate(self)
-            for majority in self.majorities
-            for record in counts[majority].records(floats=floats)
-        ]
-        names = ["name"] if any(self.names) else []
-        columns = ["board", "majority", "chair", *names, "weight", "swings", *INDEX_NAMES]
-        table = DataFrame(rows, columns=columns)
-        return table.astype(dict.fromkeys(INDEX_NAMES, float)) if floats else table
+        shape = len(self), len(self.majorities), max(map(int, self.chairs), default=0)
+        there = numpy.arange(shape[2]) < self.chairs.reshape(-1, 1, 1)
+        board, kind, chair = numpy.nonzero(numpy.broadcast_to(there, shape))
+        columns: dict[str, object] = {
+            "board": board,
+            "majority": numpy.array(self.majorities, object)[kind],
+            "chair": chair + 1,
+            "name": [self.names[at].get(number) for at, number in zip(board.tolist(), (chair + 1).tolist())],
+            "weight": self.weights[board, chair],
+            "swings": self.swings[board, kind, chair],
+        }
+        if not any(self.names):
+            del columns["name"]
+        if floats:
+            columns.update((name, getattr(self, name)[board, kind, chair]) for name in INDEX_NAMES)
+        else:
+            chairs = [it for found in self for majority in self.majorities for it in found[majority].chairs]
+            columns.update((name, [getattr(it, name) for it in chairs]) for name in INDEX_NAMES)
+        return DataFrame(columns)
 
     def __reduce__(self) -> tuple[object, ...]:
         arrays = [getattr(self, name).tobytes() for name in ARRAYS]
@@ -230,7 +267,7 @@ def names_of_columns(rows: Any) -> dict[int, str]:
 
 def indices_of_many(
     rows: Rows,
-    majorities: Iterable[Majority],
+    majorities: Iterable[Majority] = MAJORITIES,
     *,
     totals: Optional[Iterable[Whole]] = None,
     processors: Optional[int] = None,
@@ -245,7 +282,7 @@ def indices_of_many(
 
     rows: the weights of each board's chairs, as `indices` takes them: an array of numpy, a table of pandas, whose
         columns name the chairs, or any iterable of rows, which may differ in length
-    majorities: a list of "half", "70", "85" and "quorum"
+    majorities: a list of "half", "70", "85" and "quorum"; by default all of them
     totals: the total voting power of each board, in votes; by default the sum of its weights
     processors: how many threads count; by default one for each processor
 

@@ -9,12 +9,13 @@ from itertools import chain
 from typing import Any, Optional, Union, cast
 
 from .boards import count_all, count_by
+from .chair_names import ChairNames, name_of
 from .library import COUNT_WORDS, SHEET_WORDS, CommandWords, Entry, Handle, MemberRow, long, rooms, short
 from .names import (
     ALLOWED,
-    BAD_CHAIR,
     BAD_INDEX,
     BAD_RECORD,
+    CHAIR_NOT_OPEN,
     CHAIRS,
     COMMANDS,
     DUPLICATE_MEMBER,
@@ -28,7 +29,7 @@ from .names import (
     Majority,
 )
 from .refusals import LOST, Refused, check_done, refusal_of
-from .results import Command, Indices, Member, fields_in
+from .results import Command, Indices, Member, fields_in, parts_of
 from .scripts import (
     KIND,
     PREFIX,
@@ -69,24 +70,13 @@ def record_of(command: object, place: int) -> bytes:
         if not isinstance(command, (str, bytes)):
             raise wrong_type(command, f"command {place} is", COMMAND)
         return text_of(command, f"command {place} is")
-    if command.kind not in KINDS:
-        raise Refused(BAD_RECORD, f"no command {command.kind!r}: {', '.join(KINDS)}", record=place)
-    words = words_of(*command)
-    return str(command_of(words)).encode()
+    return str(command).encode()
 
 
 def words_of(kind: Kind, code: object = None, chair: object = None, votes: object = None) -> CommandWords:
     """The board_command of a command, whose parts are checked."""
-    words, parts = CommandWords(WORDS.index(kind)), KINDS[kind]
-    if "code" in parts:
-        words.code = code_of(code).encode()
-    if kind == "move":
-        words.chair = 0 if chair is None else whole(chair, "the chair is", ALLOWED["seat"], BAD_CHAIR, 1, CHAIRS)
-    elif "chair" in parts:
-        words.chair = chair_of(chair)
-    if "votes" in parts:
-        words.votes = votes_of(votes, f"the votes of {code} are")
-    return words
+    parts = parts_of(kind, code, chair, votes)
+    return CommandWords(WORDS.index(kind), (parts.code or "").encode(), parts.chair or 0, parts.votes or 0)
 
 
 def run(handle: Handle, words: CommandWords) -> int:
@@ -120,7 +110,29 @@ def run_piece(handle: Handle, piece: Piece, text: bytes, reads: bool) -> None:
 def bad_record(text: bytes, at: int, record: int) -> Exception:
     """The refusal of a record that is not well formed, or is no command."""
     start, line = line_at(text, at)
-    return refusal_of(BAD_RECORD, line, record, f" at byte {start}")
+    refused = refusal_of(BAD_RECORD, line, record, f" at byte {start}")
+    return Refused(BAD_RECORD, f"{refused}{wrong_field(line)}", line, record)
+
+
+def wrong_field(record: str) -> str:
+    """What is wrong with a field of a record, in the words of the call of its kind. Empty where it is no field."""
+    word, *fields = record.split(",")
+    kind = next((it for it in KINDS if it == word), None)
+    if kind is None or len(fields) != len(KINDS[kind]):
+        return ""
+    given = {part: value_of(part, field) for part, field in zip(KINDS[kind], fields)}
+    try:
+        words_of(kind, **given)
+    except (Refused, TypeError) as why:
+        return f": {why}"
+    return ""
+
+
+def value_of(part: str, field: str) -> object:
+    """The value of a field, or its text if it is none."""
+    if part == "chair" and field == "none":
+        return None
+    return int(field) if part != "code" and re.fullmatch("[0-9]{1,30}", field) else field
 
 
 def fault_of(piece: Piece, text: bytes) -> Exception:
@@ -130,16 +142,21 @@ def fault_of(piece: Piece, text: bytes) -> Exception:
         codes = [it.code.decode() for it in piece.records.members]
         twice = next(it for it in codes if codes.count(it) > 1)
         return Refused(piece.fault, f"{refusal_of(piece.fault)}: {twice!r}")
+    if not record:
+        return refusal_of(piece.fault)
     line = line_at(text, piece.end)[1] if piece.kept or piece.head else None
-    return refusal_of(piece.fault, line, record + piece.shift) if record else refusal_of(piece.fault)
+    refused = refusal_of(piece.fault, line, record + piece.shift)
+    field = wrong_field(line) if line and piece.fault == BAD_RECORD else ""
+    return Refused(piece.fault, f"{refused}{field}", line, record + piece.shift)
 
 
 def seated(members: Members, journal: int) -> Handle:
     """A register of members in their chairs."""
     entries = [Entry(str(row.code).encode(), 0, row.votes) for row in members.rows]
     handle = started((Entry * len(entries))(*entries), journal)
-    for chair in sorted({row.chair for row in members.rows if row.chair}):
-        run(handle, words_of("open", chair=chair))
+    chairs = sorted({row.chair for row in members.rows if row.chair})
+    opened = {chair: run(handle, words_of("open", chair=chair)) for chair in chairs}
+    handle.names = ChairNames({opened[chair]: name for chair, name in members.names.items()})
     for row in members.rows:
         if row.chair:
             run(handle, words_of("move", row.code, row.chair))
@@ -165,10 +182,10 @@ class Register:
         >>> register = Register({"AAA": 50, "BBB": 49, "CCC": 1})
         >>> register.submit(["open,1", "open,2", "move,AAA,1", "move,BBB,2", "move,CCC,2"])
         5
-        >>> with register.what_if() as other:
-        ...     other.set_votes("CCC", 9)
-        ...     [str(chair.share) for chair in other.indices("half").chairs]
+        >>> other = register.what_if()
+        >>> other.set_votes("CCC", 9)
         6
+        >>> [str(chair.share) for chair in other.indices("half").chairs]
         ['0', '1']
         >>> register
         Register(members=3, chairs=2, accepted=5, published=0)
@@ -195,25 +212,28 @@ class Register:
         TooManyMembers; BadLimit. An unknown or missing column is a ValueError, and a wrong type a TypeError.
         """
         limit, found = journal_of(journal), members_in(members)
-        self._begin(seated(found, limit), limit, found.names)
+        self._begin(seated(found, limit), limit)
 
-    def _begin(self, handle: Handle, limit: int, names: dict[int, str]) -> None:
+    def _begin(self, handle: Handle, limit: int) -> None:
         self._lock = threading.Lock()
-        self._limit, self._names = limit, names
+        self._limit = limit
         self._handle = handle
 
     @classmethod
-    def _of(cls, handle: Handle, limit: int, names: dict[int, str]) -> Register:
+    def _of(cls, handle: Handle, limit: int) -> Register:
         made = cls.__new__(cls)
-        made._begin(handle, limit, names)
+        made._begin(handle, limit)
         return made
 
     @classmethod
-    def from_script(cls, script: Script, *, journal: Whole = COMMANDS) -> Register:
+    def from_script(
+        cls, script: Script, *, journal: Whole = COMMANDS, names: Optional[Mapping[int, str]] = None
+    ) -> Register:
         """The register of a script: of an input of `board replay`, or of what `script()` returned.
 
         script: text, bytes, or a pathlib.Path of a file, of any length
         journal: the most commands that are accepted, from 1 to 1,000,000
+        names: the names of chairs that are open at its end, by number, as `names` gives them. A script has none
 
         Commands and publications are carried out; readings change nothing. Raises `Refused`, with the number of the
         record, for a refused command and a fault; and ValueError for text of a single line.
@@ -229,7 +249,10 @@ class Register:
             handle = handle or started(piece.records.members, limit)
             run_piece(handle, piece, text, reads=True)
         assert handle is not None
-        return cls._of(handle, limit, {})
+        made = cls._of(handle, limit)
+        for chair, name in (names or {}).items():
+            made.rename(chair, name)
+        return made
 
     def _used(self) -> threading.Lock:
         """The lock of this register, which a `with` takes before a signal is handled."""
@@ -244,9 +267,31 @@ class Register:
         with self._used():
             return run(self._handle, words)
 
-    def open(self, chair: Whole) -> int:
-        """Opens a closed chair, from 1 to 32. Refused: BadChair, ChairOpen, JournalFull."""
-        return self._run("open", chair=chair)
+    def open(self, chair: Whole, name: Optional[str] = None) -> int:
+        """Opens a closed chair, from 1 to 32, which has this name until it is closed. Refused: BadChair, ChairOpen,
+        JournalFull."""
+        given = name_of(name)
+        if given is None:
+            return self._run("open", chair=chair)
+        words = words_of("open", chair=chair)
+        with self._used():
+            # On a copy, so that an interrupt leaves no chair that has lost its name.
+            copy = copied(self._handle, COMMANDS)
+            accepted = run(copy, words)
+            copy.names = copy.names.given(accepted, given)
+            self._handle = copy
+        return accepted
+
+    def rename(self, chair: Whole, name: Optional[str]) -> None:
+        """Gives an open chair another name, or none, from when it was opened until it is closed. It is no command: the
+        journal, scripts and `undo` know nothing of it. Refused: BadChair, ChairNotOpen."""
+        number, given = chair_of(chair), name_of(name)
+        with self._used():
+            handle = self._handle
+            opening = handle.names.openings(handle, COMMANDS).get(number)
+            if opening is None:
+                raise Refused(CHAIR_NOT_OPEN, f"{refusal_of(CHAIR_NOT_OPEN)}: no name for chair {number}")
+            handle.names = handle.names.given(opening, given)
 
     def close(self, chair: Whole) -> int:
         """Closes an open chair in which no member sits. Refused: BadChair, ChairNotOpen, ChairHasMembers,
@@ -337,9 +382,9 @@ class Register:
         return None
 
     def what_if(self) -> Register:
-        """A copy, to change while this register stays as it is. It can be used in a `with`."""
+        """A copy, to change while this register stays as it is."""
         with self._used():
-            return self._of(copied(self._handle, COMMANDS), self._limit, self._names)
+            return self._of(copied(self._handle, COMMANDS), self._limit)
 
     copy = what_if
 
@@ -375,14 +420,14 @@ class Register:
         the count."""
         number = number_of(majority)
         with self._used():
-            sheet = self._sheet()
-        return count_by(sheet, number, self._names)
+            sheet, names = self._sheet(), self._names()
+        return count_by(sheet, number, names)
 
     def indices_of_all(self) -> dict[Majority, Indices]:
         """The voting power in the register as it stands, by each majority."""
         with self._used():
-            sheet = self._sheet()
-        return count_all(sheet, self._names)
+            sheet, names = self._sheet(), self._names()
+        return count_all(sheet, names)
 
     def read(self, majority: Majority) -> Indices:
         """The voting power in the register after its published commands, which is what readers see; before the first
@@ -390,7 +435,8 @@ class Register:
         number, found = number_of(majority), (c_uint64 * COUNT_WORDS)()
         with self._used():
             check_done(long.board_register_read(self._handle.words, number, rooms.room, found))
-        return Indices(*fields_in(found, MAJORITIES[number], self._names))
+            names = self._handle.names.at(self._handle, short.board_register_published(self._handle.words))
+        return Indices(*fields_in(found, MAJORITIES[number], names))
 
     @property
     def members(self) -> dict[str, Member]:
@@ -411,8 +457,10 @@ class Register:
 
     @property
     def names(self) -> dict[int, str]:
-        """The names of chairs by number, as the table of members gave them."""
-        return dict(self._names)
+        """The names of open chairs by number: those that the table of members, `open`, `rename` or `from_script` gave.
+        A chair that is closed and opened again is a new chair, and `undo` gives it back the name that it had."""
+        with self._used():
+            return self._names()
 
     @property
     def opening(self) -> dict[str, int]:
@@ -428,7 +476,8 @@ class Register:
 
     def script(self) -> str:
         """The register as a script, which `from_script` and `board replay` read: the members with which it started, the
-        accepted commands, and a publication after those that are published. It has no names of chairs."""
+        accepted commands, and a publication after those that are published. It has no names of chairs, which `names`
+        has: `from_script` takes them. A pickle keeps all."""
         with self._used():
             lines = ["member,votes", *(f"{code},{votes}" for code, votes in self._opening().items()), "script"]
             commands = list(map(str, self._commands()))
@@ -436,6 +485,10 @@ class Register:
         if published:
             commands.insert(published, "publish")
         return "\n".join([*lines, *commands, ""])
+
+    def _names(self) -> dict[int, str]:
+        handle = self._handle
+        return handle.names.at(handle, COMMANDS)
 
     def _sheet(self) -> Any:
         words = (c_uint64 * SHEET_WORDS)()
@@ -462,12 +515,6 @@ class Register:
             check_done(short.board_register_command_at(handle, at, byref(words)))
             yield command_of(words)
 
-    def __enter__(self) -> Register:
-        return self
-
-    def __exit__(self, *_: object) -> None:
-        return None
-
     def __copy__(self) -> Register:
         return self.what_if()
 
@@ -475,7 +522,8 @@ class Register:
         return self.what_if()
 
     def __reduce__(self) -> tuple[object, ...]:
-        return restored, (type(self), self.script(), self._limit, self._names)
+        handle = self._handle
+        return restored, (type(self), self.script(), self._limit, {}, handle.names.by_opening)
 
     def __repr__(self) -> str:
         if self._lock.locked():
@@ -488,8 +536,13 @@ class Register:
         return f"Register(members={members}, chairs={chairs}, accepted={accepted}, published={published})"
 
 
-def restored(kind: type[Register], script: str, limit: int, names: dict[int, str]) -> Register:
-    """A register from what pickle keeps of it."""
+def restored(
+    kind: type[Register], script: str, limit: int, names: dict[int, str], by_opening: Optional[dict[int, str]] = None
+) -> Register:
+    """A register from what pickle keeps of it. What version 0.10 kept has names by chair."""
     made = kind.from_script(script, journal=limit)
-    made._names = names
+    if by_opening is None:
+        opened = made._handle.names.openings(made._handle, COMMANDS)
+        by_opening = {opened[chair]: name for chair, name in names.items() if chair in opened}
+    made._handle.names = ChairNames(by_opening)
     return made

@@ -87,7 +87,7 @@ class Replay:
                 check_done(short.board_register_publish(handle.words, byref(accepted)))
             elif kind != READ:
                 apply(handle, place, accepted)
-        return Register._of(handle, self.journal, {})
+        return Register._of(handle, self.journal)
 
     def __reduce__(self) -> tuple[object, ...]:
         return made, (self.script, self.readers, self.journal)

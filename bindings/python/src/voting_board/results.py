@@ -2,14 +2,17 @@
 from __future__ import annotations
 
 import ctypes
-from collections.abc import Mapping
+from collections.abc import Iterable, Mapping
 from dataclasses import dataclass, field
 from fractions import Fraction
 from functools import cached_property
-from typing import TYPE_CHECKING, Literal, NamedTuple, Optional, Union
+from html import escape
+from typing import TYPE_CHECKING, Any, Literal, NamedTuple, Optional, Union
 
 from .library import FIRST_ROW, ROW_WORDS
-from .names import KINDS, Kind, Majority
+from .names import ALLOWED, BAD_CHAIR, BAD_RECORD, CHAIRS, KINDS, Kind, Majority
+from .refusals import Refused
+from .values import Whole, chair_of, code_of, votes_of, whole
 
 if TYPE_CHECKING:
     from matplotlib.axes import Axes  # type: ignore[import]
@@ -61,9 +64,10 @@ class Chair:
         return self._over("initiate") or Fraction(0)
 
 
-@dataclass(frozen=True)
+@dataclass(frozen=True, repr=False)
 class Indices:
-    """The voting power of a board by a majority: what wins, and how often each chair is decisive.
+    """The voting power of a board by a majority: what wins, and how often each chair is decisive. It is shown as a
+    table, also in notebooks.
 
     majority: "half", "70", "85" or "quorum"
     quota: the least weight that can win, in votes
@@ -96,6 +100,13 @@ class Indices:
         divisors = tuple(self.divisor(index) for index in INDEX_NAMES)
         rows = zip(self.numbers, self.names, self.weights, self.swings)
         return tuple(Chair(*row, divisors) for row in rows)
+
+    def chair(self, which: Union[int, str]) -> Chair:
+        """The open chair of a number or of a name. A KeyError if no chair has it, or several have this name."""
+        keys: tuple[object, ...] = self.names if isinstance(which, str) else self.numbers
+        if (many := keys.count(which)) != 1:
+            raise KeyError(f"{many} chairs have the {'name' if isinstance(which, str) else 'number'} {which!r}")
+        return self.chairs[keys.index(which)]
 
     @property
     def act(self) -> Fraction:
@@ -134,6 +145,34 @@ class Indices:
         table = DataFrame(self.records(floats=floats), columns=columns)
         return table.astype(dict.fromkeys(INDEX_NAMES, float)) if floats else table
 
+    def _headline(self) -> str:
+        size = f" of {self.least_size} chairs or more" if self.least_size else ""
+        votes = f"{self.quota} of {self.total} votes{size} win"
+        return f"Majority {self.majority}: {votes}, {self.omega} of {self.coalitions} coalitions do"
+
+    def _cells(self) -> list[tuple[str, ...]]:
+        """The table as texts, with its heading. Indices have six decimals."""
+        columns: list[tuple[str, Iterable[object]]] = [("chair", self.numbers)]
+        if any(self.names):
+            columns.append(("name", [name or "" for name in self.names]))
+        columns += [("weight", self.weights), ("swings", self.swings)]
+        for index in INDEX_NAMES:
+            columns.append((index, ["-" if it != it else f"{it:.6f}" for it in self.values(index)]))
+        return [tuple(name for name, _ in columns), *zip(*(map(str, cells) for _, cells in columns))]
+
+    def __repr__(self) -> str:
+        rows = self._cells()
+        widths = [max(map(len, column)) for column in zip(*rows)]
+        lines = ["  ".join(cell.rjust(width) for cell, width in zip(row, widths)) for row in rows]
+        return "\n".join([self._headline(), *lines])
+
+    def _repr_html_(self) -> str:
+        """The table in a notebook."""
+        head, *rows = ["".join(f"<td>{escape(cell)}</td>" for cell in row) for row in self._cells()]
+        body = "".join(f"<tr>{row}</tr>" for row in rows)
+        head = head.replace("td>", "th>")
+        return f"<p>{self._headline()}</p><table><thead><tr>{head}</tr></thead><tbody>{body}</tbody></table>"
+
     def plot(self, index: IndexName = "share", ax: Optional[Axes] = None) -> Axes:
         """Draws a bar for an index of each chair by matplotlib, into `ax` or a new figure, and returns the axes."""
         heights = self.values(index)
@@ -150,7 +189,7 @@ class Indices:
         return ax
 
 
-@dataclass(frozen=True)
+@dataclass(frozen=True, repr=False)
 class Reading(Indices):
     """A reader's reading in a replay: the voting power in the register that was published last.
 
@@ -164,6 +203,10 @@ class Reading(Indices):
     reader: int
     front: int
     record: int
+
+    def _headline(self) -> str:
+        place = f"Record {self.record}, reader {self.reader}, after {self.front} commands"
+        return f"{place}. {super()._headline()}"
 
 
 Wholes = tuple[int, ...]
@@ -194,23 +237,61 @@ class Member:
     suspended: bool = False
 
 
-class Command(NamedTuple):
-    """A command of a register. As text, `str(command)`, it is a record such as "move,AAA,3".
-
-    kind: "open", "close", "move", "votes", "suspend", "restore", "admit" or "withdraw"
-    code: the code of a member, or None for "open" and "close"
-    chair: the number of a chair, or None; "move" to None takes a member out of its chair
-    votes: the votes of "votes" and "admit", else None
-    """
+class CommandParts(NamedTuple):
+    """The parts of a command, which are not checked."""
 
     kind: Kind
     code: Optional[str] = None
     chair: Optional[int] = None
     votes: Optional[int] = None
 
+
+class Command(CommandParts):
+    """A command of a register, a named tuple. As text, `str(command)`, it is a record such as "move,AAA,3".
+
+    kind: "open", "close", "move", "votes", "suspend", "restore", "admit" or "withdraw"
+    code: the code of a member, or None for "open" and "close"
+    chair: the number of a chair, or None; "move" to None takes a member out of its chair
+    votes: the votes of "votes" and "admit", else None
+
+    Its parts are checked when it is made. Raises `Refused`: BadRecord for an unknown kind, BadMember, BadChair,
+    BadRecord or VotesTooLarge for a part. A part of a wrong type, one that the kind needs and hasn't, and one that it
+    doesn't take are a TypeError.
+    """
+
+    __slots__ = ()
+
+    def __new__(
+        cls, kind: Kind, code: Optional[str] = None, chair: Optional[Whole] = None, votes: Optional[Whole] = None
+    ) -> Command:
+        return super().__new__(cls, *parts_of(kind, code, chair, votes))
+
+    @classmethod
+    def _make(cls, iterable: Iterable[Any]) -> Command:  # type: ignore[override]
+        return cls(*iterable)
+
     def __str__(self) -> str:
         parts = [getattr(self, part) for part in KINDS[self.kind]]
         return ",".join([self.kind, *("none" if it is None else str(it) for it in parts)])
+
+
+def parts_of(kind: Kind, code: object, chair: object, votes: object) -> CommandParts:
+    """The parts of a command, checked."""
+    if kind not in KINDS:
+        raise Refused(BAD_RECORD, f"no command {kind!r}: {', '.join(KINDS)}")
+    parts = KINDS[kind]
+    for name, value in (("code", code), ("chair", chair), ("votes", votes)):
+        if name not in parts and value is not None:
+            raise TypeError(f"the command {kind!r} has no {name}: its parts are {', '.join(parts)}")
+    if "code" in parts:
+        code = code_of(code)
+    if kind == "move" and chair is not None:
+        chair = whole(chair, "the chair is", ALLOWED["seat"], BAD_CHAIR, 1, CHAIRS)
+    elif kind != "move" and "chair" in parts:
+        chair = chair_of(chair)
+    if "votes" in parts:
+        votes = votes_of(votes, f"the votes of {code} are")
+    return CommandParts(kind, code, chair, votes)  # type: ignore[arg-type]
 
 
 @dataclass(frozen=True)

@@ -10,6 +10,7 @@ from pathlib import Path
 from reprlib import repr
 from typing import Any, Union
 
+from .chair_names import ChairNames
 from .library import CommandWords, Entry, Handle, Item, long, short
 from .names import INPUT_BYTES, KINDS, MEMBERS, OUT_OF_MEMORY, TOO_LONG, TRAPPED
 from .refusals import check_done, refusal_of
@@ -138,24 +139,22 @@ def command_of(words: Any) -> Command:
     """The command of a board_command."""
     kind = WORDS[words.kind]
     parts = KINDS[kind]
-    return Command(
-        kind,
-        words.code.decode() if "code" in parts else None,
-        words.chair or None if "chair" in parts else None,
-        words.votes if "votes" in parts else None,
-    )
+    code = words.code.decode() if "code" in parts else None
+    chair = words.chair or None if "chair" in parts else None
+    # What the library holds needs no check.
+    return tuple.__new__(Command, (kind, code, chair, words.votes if "votes" in parts else None))
 
 
 def started(members: Any, journal: int) -> Handle:
     """A register of members."""
-    handle = Handle()
+    handle = Handle(ChairNames({}))
     check_done(short.board_register_start(members, len(members), journal, handle.words))
     return handle
 
 
 def copied(handle: Handle, accepted: int) -> Handle:
     """A copy of a register as it was after its first commands. Other threads run while it is made."""
-    copy = Handle()
+    copy = Handle(handle.names.first(accepted))
     check_done(long.board_register_copy(handle.words, accepted, copy.words))
     return copy
 

@@ -12,6 +12,7 @@ from hashlib import sha256
 from pathlib import Path
 from typing import Optional, Union
 
+from .countries import CODES
 from .names import CHAIRS, COLUMNS, MEMBER_VOTES, MEMBERS
 from .registers import Register
 
@@ -20,8 +21,20 @@ CLEANED = "open the table in board.html, which cleans it and saves a table that 
 NUMBER = re.compile("0|[1-9][0-9]{0,19}")
 #: The marks of a footnote at the end of a name, and names that a total or an empty chair has.
 MARKED = re.compile(r"[*†‡§¹²³⁰-⁹]$|[(\[][0-9a-z][)\]]$|\s[0-9a-z][/)]$")
-NO_MEMBER = re.compile(r"(grand |sub-?)?totals?\b|.*\btotals?$|sum( of .*)?$|none$|vacant$|of which|[-–—]$")
+NO_MEMBER = re.compile(r"(grand |sub-?)?totals?\b|.*\btotals?$|sum( of .*)?$|none$|vacant$|[-–—]$")
+#: Names of several members together, as board.html has them too.
+_GROUPS = r"asean|brics\+?|cemac|waemu|wamu|eccu|ecb|eu-?[0-9]{0,2}|g-?[0-9]{1,2}|gcc|ldcs?|lics?|oecd|opec"
+_PLACES = "africa|asia|caribbean|europe|oceania|pacific|western hemisphere|middle east|north africa|central asia"
+_SIDES = "sub-?saharan|north(?:ern)?|central|eastern|western|southern|latin|middle|emerging|developing|advanced|euro"
+AGGREGATE = re.compile(
+    rf"(?:of which|memo(?:randum)?\b|aggregates?\b|(?:the )?(?:{_GROUPS})$|(?:region|group)\b"
+    rf"|(?:(?:{_SIDES}),? (?:and )?)?(?:{_PLACES})(?: and (?:the )?(?:{_PLACES}))*$|(?:south|latin) (?:asia|america)"
+    r"|.*\b(?:countries|economies|monetary union|european union|euro area|euro zone|nations)$)"
+)
 LETTERS = "ABCDEFGHIJKLMNOPQRSTUVWXYZ"
+#: Words that names of countries are compared without, and short forms of words, as tools/countries.py has them.
+LEFT_OUT = {"the", "of", "and", "de", "d", "republic", "rep", "kingdom", ""}
+SHORT = {"dem": "democratic", "st": "saint", "fed": "federated", "is": "islands"}
 
 
 class BadTable(ValueError):
@@ -120,7 +133,7 @@ class Rows:
         name, chair = given.get("chair_name", ""), given["chair"]
         if name and not chair:
             self.wrong(row, f"the chair_name {name!r} has no chair")
-        elif name and chair.isdecimal() and self.names.setdefault(int(chair), name) != name:
+        elif name and NUMBER.fullmatch(chair) and self.names.setdefault(int(chair), name) != name:
             self.wrong(row, f"the chair_name {name!r} isn't {self.names[int(chair)]!r}, which chair {chair} has above")
 
 
@@ -147,6 +160,10 @@ def problem_of_name(column: str, cell: str) -> str:
         return "ends in a footnote's mark"
     if NO_MEMBER.match(cell.casefold()):
         return "is the name of a total or of an empty place"
+    if column == "name" and AGGREGATE.match(cell.casefold()):
+        return "is the name of several members together"
+    if re.search("suspen[ds]", cell.casefold()):
+        return "speaks of a suspension, which is for the column suspended"
     return ""
 
 
@@ -213,6 +230,18 @@ def merged(members: Sequence[StrictMember]) -> list[StrictMember]:
     return blank if blank and (is_each_once or 2 * len(heads) > len(filled)) else []
 
 
+def loose(members: Sequence[StrictMember]) -> Iterator[tuple[StrictMember, str]]:
+    """The rows without a chair that may be the sum of other members: those without a code if the others have a chair,
+    and those with more votes than any member in one."""
+    seated = [it.votes for it in members if it.chair is not None]
+    free = [it for it in members if it.chair is None]
+    for it in free if seated else ():
+        if it.votes > max(seated):
+            yield it, f"has no chair, and its {it.votes} votes are more than those of any member in one"
+        elif not it.code and len(free) <= len(seated):
+            yield it, "has no chair, and the others have one: a member in none, or the sum of others"
+
+
 def doubts_of(members: Sequence[StrictMember]) -> dict[int, str]:
     """What isn't clean in the table as a whole, by rows."""
     doubts = {
@@ -222,26 +251,40 @@ def doubts_of(members: Sequence[StrictMember]) -> dict[int, str]:
     for it in merged(members):
         who = repr(it.code or it.name)
         doubts.setdefault(it.row, f"{who} has no chair, below a row that has one, as in a table with merged cells")
+    for it, what in loose(members):
+        doubts.setdefault(it.row, f"{it.code or it.name!r} {what}")
     return doubts
 
 
+def key_of(name: str) -> str:
+    """What the spellings of a country's name have in common: its words in order of the alphabet."""
+    plain = "".join(it for it in unicodedata.normalize("NFD", name) if not unicodedata.category(it).startswith("M"))
+    words = re.split("[^a-z]+", re.sub("[.'\u2019]", "", plain.lower()))
+    return " ".join(sorted({SHORT.get(it, it) for it in words} - LEFT_OUT))
+
+
+def country_codes() -> dict[str, str]:
+    """The ISO codes of countries by the keys of their names."""
+    pairs = (line.split(":") for line in CODES.splitlines())
+    return {key: code for code, keys in pairs for key in keys.split(";")}
+
+
 def made_codes(names: Iterable[str]) -> Iterator[str]:
-    """Codes of names, each once: the first two letters and one of the others. board.html makes the same."""
-    used: set[str] = set()
-    for name in names:
-        letters = re.sub("[^A-Z]", "", unicodedata.normalize("NFD", name).upper()).ljust(2, "X")
-        tries = [letters[:2] + third for third in letters[2:] + LETTERS]
-        tries += [LETTERS[it // 676 % 26] + LETTERS[it // 26 % 26] + LETTERS[it % 26] for it in range(MEMBERS + 1)]
-        code = next(it for it in tries if it not in used)
+    """Codes of names, each once: a country's ISO code, and else a code that no country has. board.html has the same."""
+    known, used = country_codes(), set[str]()
+    own = [known.get(key_of(name), "") for name in names]
+    for at, code in enumerate(own):
+        own[at] = "" if code in used else code
         used.add(code)
-        yield code
+    free = (f"X{second}{third}" for second in LETTERS for third in LETTERS if f"X{second}{third}" not in used | {"XKX"})
+    return (code or next(free) for code in own)
 
 
 def with_codes(members: Sequence[StrictMember]) -> tuple[list[StrictMember], str]:
     """The members with codes made from their names, and a sentence on them."""
     coded = [replace(it, code=code) for it, code in zip(members, made_codes(it.name for it in members))]
     made = "; ".join(f"{it.code} {it.name}" for it in coded)
-    return coded, f"The table has no codes: they were made from the names: {made}"
+    return coded, f"The table has no codes: they were made from the names (a country's by ISO 3166): {made}"
 
 
 def check_rows(rows: Rows, last: int) -> None:
@@ -250,6 +293,13 @@ def check_rows(rows: Rows, last: int) -> None:
         rows.wrong(rows.found[MEMBERS].row, f"a member too many: there are {MEMBERS} at most")
     if not rows.found and not rows.problems:
         rows.wrong(last, "there is no member below the header")
+
+
+def total_words(votes: int, total: int) -> str:
+    """What is wrong with the sum of the votes, by the published total."""
+    words = f"the votes below add up to {votes:,}, and the published total is {total:,}"
+    more = f". If the table leaves members out, add a row for them, with {total - votes:,} votes and no chair"
+    return words + more * (votes < total)
 
 
 def read_table(
@@ -282,7 +332,7 @@ def read_table(
         rows.problems += [f"row {row}: {what}" for row, what in doubts.items()]
     votes = sum(it.votes for it in rows.found)
     if not rows.problems and total not in (None, votes):
-        rows.wrong(header_row, f"the votes below add up to {votes:,}, and the published total is {total:,}")
+        rows.wrong(header_row, total_words(votes, total or 0))
     if rows.problems:
         raise BadTable(rows.problems)
     notices = [f"Rows above the header were skipped: {header_row - 1}"] * (header_row > 1)

@@ -8,8 +8,8 @@ from pathlib import Path
 from . import studies
 from .answers import NAMES
 from .command_line import PAGE, TABLE, add_figure_words, check_names, command_words, counted, ended
-from .command_line import majorities, out_name, read_bytes, say
-from .files import place_of, write_files
+from .command_line import majorities, out_name, printable, read_bytes, say
+from .files import check_same, place_of, write_files
 from .names import MAJORITIES, VERSION
 from .scenarios import BASE, each, scenario_of, scenarios_in, sweep_of
 from .strict import ENCODINGS, StrictTable, read_table
@@ -61,6 +61,7 @@ def words() -> argparse.ArgumentParser:
     add("--sweep", metavar="TEXT", action="append", default=[], help="'WHO FROM..TO by STEP %%', of the total")
     add("--measure", choices=NAMES, default="share", help="what sentences, page and figures compare (default: share)")
     add("--replay", metavar="FILE", type=Path, help="write the input of `board replay` that gives these readings")
+    add("--force", action="store_true", help="let --replay replace another script")
     add("--title", help="the study's name in the page (default: the table's name)")
     add_figure_words(parser)
     add("--encoding", choices=ENCODINGS, default="utf-8", help="of the table (default: utf-8)")
@@ -109,7 +110,7 @@ def places_of(given: argparse.Namespace, figures: dict[Path, bytes]) -> list[Pat
 def make(given: argparse.Namespace) -> None:
     """Runs the study, writes its files, and says the answers."""
     places_of(given, {})
-    data, files = read_bytes(given.table), [(it, Path(it).read_bytes()) for it in given.scenarios]
+    data, files = read_bytes(given.table), [(it, read_bytes(it)) for it in given.scenarios]
     table = table_in(given, data)
     say("board-study", said_of(table))
     asked = [it for many in each(lambda it: scenarios_in(*it), files) for it in many]
@@ -128,12 +129,14 @@ def make(given: argparse.Namespace) -> None:
         figures = figure_files(study_figures(study, given.measure), start, given.figure_titles == "in", lines)
     page = page_with(page_data(study, name, lines, given.measure, given.total))
     texts = [study_table(study, lines), page, *([study.script()] if given.replay else [])]
-    answers = "\n".join(sentences(study, given))
+    answers = printable("\n".join(sentences(study, given)))
+    if given.replay and not given.force:
+        check_same(given.replay, texts[-1].encode())
     write_files({**dict(zip(places_of(given, figures), (it.encode() for it in texts))), **figures})
     others = [it.sweep for it in study.sweeps if it.sweep != sweep_in_page(study)]
     alone = "is in OUT.csv alone: the page holds one sweep, of a member or a chair"
     say("board-study", [f"{it.text!r} {alone}" for it in others])
-    print(answers)
+    print(printable(answers))
 
 
 def main() -> int:

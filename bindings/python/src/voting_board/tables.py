@@ -121,12 +121,10 @@ def is_missing(cell: Any) -> bool:
 
 
 def members_of(table: Table, needed: tuple[str, str]) -> Members:
-    """The members of a table for a register, which needs codes, or for a board."""
+    """The members of a table for a register, which needs codes, or for a board. A table without columns has none."""
     columns = columns_of(table)
     lengths = {name: len(cells) for name, cells in columns.items()}
-    if not any(lengths.values()):
-        raise ValueError("the table has no rows")
-    for name in needed:
+    for name in needed if columns else ():
         if name not in columns:
             raise ValueError(
                 f"no column {name!r}: a {'register' if 'code' in needed else 'board'} needs {needed[0]} "
@@ -143,7 +141,7 @@ def read(columns: dict[str, list[Any]], is_register: bool) -> Members:
     found = Members(rows, {})
     codes: dict[str, int] = {}
     named: dict[int, int] = {}
-    for place in range(1, len(columns["votes"]) + 1):
+    for place in range(1, len(columns.get("votes", ())) + 1):
         cells = {name: column[place - 1] for name, column in columns.items()}
         try:
             row = seated_of(cells, f"row {place}: ", is_register)

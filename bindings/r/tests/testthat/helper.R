@@ -25,6 +25,8 @@ three <- function() {
   data.frame(code = c("AAA", "BBB", "CCC"), votes = c(50, 49, 1), chair = 1:3)
 }
 
+handle_in <- function(r) unclass(r)$handle
+
 # A register as its parts, for comparison.
 parts <- function(r) {
   list(board_opening(r), as.character(board_journal(r)), board_published(r), board_members(r), board_chairs(r))

@@ -107,8 +107,36 @@ test_that("many boards are those one by one", {
   expect_identical(board_indices_of_many(as.data.frame(rows))$omega, many$omega)
   expect_identical(unique(as.data.frame(many)$board), c("first", "second"))
   expect_identical(nrow(as.data.frame(board_indices_of_many(matrix(1, 0, 3)))), 0L)
+  expect_identical(list$weights[1, ], c(50, 49, 1))
   expect_identical(board_indices_of_many(matrix(1:2, 2))$share[, "half", ], c(1, 1))
   expect_output(print(many), "2 boards of up to 3 chairs, by half, 70, 85, quorum")
+})
+
+test_that("many boards have chairs and exact fractions", {
+  many <- board_indices_of_many(list(first = c(50, 49, 1), second = c(0, 0), third = numeric(0)), c("half", "85"))
+  expect_identical(many$chairs, c(3L, 2L, 0L))
+  expect_identical(many$coalitions, c(8, 4, 1))
+  frame <- as.data.frame(many, fractions = "exact")
+  boards <- list(first = c(50, 49, 1), second = c(0, 0))
+  for (board in names(boards)) for (majority in many$majorities) {
+    alone <- as.data.frame(board_indices(boards[[board]], majority), fractions = "exact")
+    rows <- frame[frame$board == board & frame$majority == majority, names(alone)]
+    expect_identical(as.list(rows), as.list(alone))
+  }
+  expect_identical(nrow(frame), 10L)
+})
+
+# Catches: counts by all majorities where some are asked for.
+test_that("many boards are counted by the majorities that are asked for alone", {
+  rows <- lapply(1:200, function(at) (at * 7919 + (1:24) * 104729) %% 400009)
+  all <- board_indices_of_many(rows, processors = 1)
+  took <- function(...) system.time(board_indices_of_many(rows, ..., processors = 1))[["user.self"]]
+  for (asked in list("85", c("quorum", "half"), c("85", "70", "85"), rev(all$majorities))) {
+    some <- board_indices_of_many(rows, asked, processors = 1)
+    expect_identical(unname(some$swings), unname(all$swings[, asked, , drop = FALSE]))
+    expect_identical(unname(some$omega), unname(all$omega[, asked, drop = FALSE]))
+  }
+  expect_lt(took("85"), 0.7 * took())
 })
 
 test_that("results are printed, summed up and drawn", {

@@ -127,6 +127,16 @@ test_that("cells of tables are refused with their rows", {
   expect_identical(board_accepted(board_register(transform(three(), code = factor(code)))), 6L)
 })
 
+# Catches: a filter that leaves no row, or a file without rows, which stops a study.
+test_that("a table without rows is the empty board", {
+  read <- utils::read.csv(text = "code,votes,chair,chair_name,suspended")
+  for (table in list(three()[0, ], read, data.frame(), list())) {
+    expect_identical(nrow(board_members(board_register(table))), 0L)
+    expect_identical(board_indices(table, "half"), board_indices(numeric(0), "half"))
+  }
+  wrong(board_register(three()[0, c("code", "chair")]), paste0("no column 'votes'", columns_are))
+})
+
 test_that("columns are found by their whole names", {
   named <- transform(three(), name = "A")
   expect_identical(board_indices(named, "half")$total, board_indices(three(), "half")$total)
@@ -137,8 +147,6 @@ test_that("columns are found by their whole names", {
     wrong(call(cbind(three(), suspend = TRUE)), paste0("unknown column 'suspend'", columns_are))
     wrong(call(cbind(three(), name = 5)), "row 1: the name is 5 (numeric): a name is text")
     wrong(call(data.frame(code = "AAA", chair = 1)), paste0("no column 'votes'", columns_are))
-    wrong(call(three()[0, ]), "the table has no rows")
-    expect_error(call(data.frame()), "no column", class = "board_type_error")
     wrong(call(list(1, 2)), paste0("the table has no names of columns", columns_are))
     twice <- structure(as.list(three()), names = c("votes", "votes", "chair"))
     wrong(call(twice), "column 'votes' is there twice")
@@ -177,7 +185,7 @@ test_that("C checks again what R has checked", {
   expect_error(call("indices", c(1, 2), 0L, NULL), "not a board")
   expect_error(call("indices", c(1, 1, 1, 1, 1, 1, 1, 99, 1, 1), 0L, NULL), "not a board")
   expect_error(call("state", 5), "not a register")
-  expect_error(call("submit", board_register(c(AAA = 1))$handle, "open,1"), "wrong type")
+  expect_error(call("submit", handle_in(board_register(c(AAA = 1))), "open,1"), "wrong type")
   expect_error(call("start", c("AAAA"), 1, 10), "three characters")
   expect_error(call("many", list(rep(1, 33)), 33, 0L, 1), "too many weights")
   expect_error(call("many", list(1), 1, 0L, -1), "isn't whole")

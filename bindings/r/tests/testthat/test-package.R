@@ -5,7 +5,7 @@ test_that("the library has the package's version", {
 
 test_that("names of refusals are those of the library's answers", {
   run <- board_replay(c("member,votes", "AAA,1", "script", "close,1"))
-  expect_identical(board_replay_text(c("member,votes", "AAA,1", "script", "close,1"))$text,
+  expect_identical(as.vector(board_replay_text(c("member,votes", "AAA,1", "script", "close,1"))$text),
     paste0("refused,", run$refused$number, ",", run$refused$name, "\n"))
 })
 

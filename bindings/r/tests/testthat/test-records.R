@@ -1,18 +1,20 @@
 test_that("records are carried out from text, lists and journals", {
   r <- board_register(c(AAA = 1, BBB = 2))
-  expect_identical(board_submit(r, "open,1"), 1L)
-  expect_identical(board_submit(r, "open,2\nmove,AAA,1\r\n\n\"mo\"ve,\"BBB\",\"02\""), 4L)
-  expect_identical(board_submit(r, c("move,BBB,none", "publish", "close,2")), 6L)
+  expect_identical(board_accepted(board_submit(r, "open,1")), 1L)
+  expect_identical(board_accepted(board_submit(r, "open,2\nmove,AAA,1\r\n\n\"mo\"ve,\"BBB\",\"02\"")), 4L)
+  expect_identical(board_accepted(board_submit(r, c("move,BBB,none", "publish", "close,2"))), 6L)
   expect_identical(board_published(r), 5L)
-  expect_identical(board_submit(r, list("open,2", c("move,BBB,2", "suspend,BBB"), factor("restore,BBB"))), 10L)
-  expect_identical(board_submit(r, character(0)), 10L)
-  expect_identical(board_submit(r, list()), 10L)
-  expect_identical(board_submit(r, ""), 10L)
-  expect_identical(board_submit(r, "\n\n"), 10L)
+  board_submit(r, list("open,2", c("move,BBB,2", "suspend,BBB"), factor("restore,BBB")))
+  expect_identical(board_accepted(r), 10L)
+  expect_identical(board_accepted(board_submit(r, character(0))), 10L)
+  expect_identical(board_accepted(board_submit(r, list())), 10L)
+  expect_identical(board_accepted(board_submit(r, "")), 10L)
+  expect_identical(board_accepted(board_submit(r, "\n\n")), 10L)
   other <- board_register(c(AAA = 1, BBB = 2))
-  expect_identical(board_submit(other, board_journal(r)), 10L)
+  expect_identical(board_accepted(board_submit(other, board_journal(r))), 10L)
   expect_identical(parts(other)[-3], parts(r)[-3])
-  expect_identical(board_submit(board_register(c(AAA = 1, BBB = 2)), list(board_journal(r), "publish")), 10L)
+  other <- board_register(c(AAA = 1, BBB = 2))
+  expect_identical(board_published(board_submit(other, list(board_journal(r), "publish"))), 10L)
 })
 
 test_that("a list is carried out as a whole or not at all", {
@@ -32,8 +34,18 @@ test_that("a list is carried out as a whole or not at all", {
     "refused 'read,1,half': BadRecord (17), a record is not well formed")
   refused(board_submit(r, "move,AAA,9"), "ChairNotOpen",
     "refused 'move,AAA,9': ChairNotOpen (2), the chair is not open")
-  for (bad in c("opn,1", "open,0", "open,33", "open", "move,aaa,1", "votes,AAA,1099511627777", "member,votes",
-    "script", "\"open", "\ufeffopen,1", "open,1,")) {
+  # Catches: a text that is refused in other words than the call of its kind.
+  fields <- c("open,0" = "the chair is 0: a chair is a whole number from 1 to 32",
+    "open,33" = "the chair is 33: a chair is a whole number from 1 to 32",
+    "move,AAA,x" = "the chair is 'x' (character): a chair is a whole number from 1 to 32, or NA for no chair",
+    "move,aaa,1" = "the code is 'aaa': a code is three ASCII capitals",
+    "votes,AAA,1099511627777" =
+      "the votes of AAA are 1099511627777: votes are whole numbers from 0 to 1099511627776")
+  for (bad in names(fields)) {
+    refused(board_submit(r, bad), "BadRecord",
+      paste0("refused '", bad, "': BadRecord (17), a record is not well formed: ", fields[[bad]]))
+  }
+  for (bad in c("opn,1", "open", "member,votes", "script", "\"open", "\ufeffopen,1", "open,1,")) {
     refused(board_submit(r, bad), "BadRecord", paste0("refused ", encodeString(bad, quote = "'"),
       ": BadRecord (17), a record is not well formed"))
   }
@@ -85,7 +97,10 @@ test_that("scripts are written and read back", {
   expect_identical(parts(board_from_script(readLines(file))), parts(r))
   expect_identical(parts(board_from_script(charToRaw(text))), parts(r))
   expect_identical(parts(board_replay(text)$register), parts(r))
-  expect_identical(board_script(board_register(c(AAA = 1))), "member,votes\nAAA,1\nscript\n")
+  text <- board_script(board_register(c(AAA = 1)))
+  expect_identical(as.vector(text), "member,votes\nAAA,1\nscript\n")
+  # Catches: a script that is printed as one line with escapes.
+  expect_output(print(text), "^member,votes\nAAA,1\nscript\n?$")
   read <- board_from_script(c("\ufeffmember,votes", "AAA,1", "\"scr\"ipt", "open,1", "read,4,half", "publish"))
   expect_identical(c(board_accepted(read), board_published(read)), c(1L, 1L))
 })
@@ -119,7 +134,7 @@ test_that("a script that can't be carried out is refused with its record", {
 if (is_deep) test_that("a million commands are carried out and written back", {
   r <- board_register(c(AAA = 1))
   records <- rep(c("open,1", "move,AAA,1", "move,AAA,none", "close,1"), 250000)
-  expect_identical(board_submit(r, records), 1000000L)
+  expect_identical(board_accepted(board_submit(r, records)), 1000000L)
   refused(board_open(r, 1), "JournalFull",
     "refused 'open,1': JournalFull (9), as many commands as the journal limit were accepted")
   expect_identical(as.character(board_journal(r)), records)
@@ -152,7 +167,7 @@ test_that("pieces are cut within any record, and nothing is lost", {
   for (blank in seq(0, period - 1, by = if (is_deep) 1 else 3)) {
     moved <- c(rep(as.raw(10), blank), text)
     r <- board_register(c(AAA = 1))
-    expect_null(.Call(votingboard:::C_submit, r$handle, moved))
+    expect_null(.Call(votingboard:::C_submit, handle_in(r), moved))
     expect_identical(board_accepted(r), 520000L)
     expect_identical(board_accepted(board_from_script(c(opening, moved))), 520000L)
   }
@@ -163,16 +178,16 @@ test_that("empty lines of more than a piece are passed over", {
   r <- board_register(c(AAA = 1))
   for (rest in c("open,1", "close,1", "open,1\nclose,1\n")) {
     for (more in c(0, 1, 12, 19:23)) {
-      expect_null(.Call(votingboard:::C_check, r$handle, c(blank, rep(as.raw(10), more), charToRaw(rest))))
+      expect_null(.Call(votingboard:::C_check, handle_in(r), c(blank, rep(as.raw(10), more), charToRaw(rest))))
     }
-    expect_null(.Call(votingboard:::C_submit, r$handle, c(blank, charToRaw(rest), blank)))
+    expect_null(.Call(votingboard:::C_submit, handle_in(r), c(blank, charToRaw(rest), blank)))
   }
   expect_identical(board_accepted(r), 4L)
   cut <- c(rep(as.raw(10), 4194304 - 22), charToRaw("open,2\nopen,3"), blank)
-  expect_null(.Call(votingboard:::C_submit, r$handle, cut))
+  expect_null(.Call(votingboard:::C_submit, handle_in(r), cut))
   expect_identical(board_accepted(r), 6L)
   bad <- c(blank, charToRaw("opn,2\nopen,3"), blank)
-  expect_identical(.Call(votingboard:::C_submit, r$handle, bad), c(17, 1, length(blank), NA))
+  expect_identical(.Call(votingboard:::C_submit, handle_in(r), bad), c(17, 1, length(blank), NA))
   script <- c(charToRaw("member,votes\nAAA,1\nscript\n"), blank, charToRaw("open,1\nopen,1\n"))
   expect_identical(tryCatch(board_from_script(script), board_refused = identity)$record, 5)
 })

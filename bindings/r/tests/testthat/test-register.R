@@ -25,19 +25,19 @@ test_that("a register is started by a table or by a vector of votes", {
 test_that("commands are carried out in place", {
   r <- board_register(c(AAA = 50, BBB = 49))
   same <- r
-  expect_identical(board_open(r, 1), 1L)
-  expect_identical(board_open(r, 2L), 2L)
-  expect_identical(board_move(r, "AAA", 1), 3L)
-  expect_identical(board_move(r, factor("BBB"), 2), 4L)
-  expect_identical(board_set_votes(r, "BBB", 60), 5L)
-  expect_identical(board_suspend(r, "AAA"), 6L)
-  expect_identical(board_restore(r, "AAA"), 7L)
-  expect_identical(board_admit(r, "CCC", 5), 8L)
-  expect_identical(board_withdraw(r, "CCC"), 9L)
-  expect_identical(board_move(r, "BBB", NA), 10L)
-  expect_identical(board_move(r, "BBB", 2), 11L)
-  expect_identical(board_move(r, "BBB", NULL), 12L)
-  expect_identical(board_close(r, 2), 13L)
+  expect_identical(board_accepted(board_open(r, 1)), 1L)
+  expect_identical(board_accepted(board_open(r, 2L)), 2L)
+  expect_identical(board_accepted(board_move(r, "AAA", 1)), 3L)
+  expect_identical(board_accepted(board_move(r, factor("BBB"), 2)), 4L)
+  expect_identical(board_accepted(board_set_votes(r, "BBB", 60)), 5L)
+  expect_identical(board_accepted(board_suspend(r, "AAA")), 6L)
+  expect_identical(board_accepted(board_restore(r, "AAA")), 7L)
+  expect_identical(board_accepted(board_admit(r, "CCC", 5)), 8L)
+  expect_identical(board_accepted(board_withdraw(r, "CCC")), 9L)
+  expect_identical(board_accepted(board_move(r, "BBB", NA)), 10L)
+  expect_identical(board_accepted(board_move(r, "BBB", 2)), 11L)
+  expect_identical(board_accepted(board_move(r, "BBB", NA_real_)), 12L)
+  expect_identical(board_accepted(board_close(r, 2)), 13L)
   expect_identical(board_accepted(same), 13L)
   expect_invisible(board_open(r, 9))
   journal <- board_journal(r)
@@ -49,11 +49,38 @@ test_that("commands are carried out in place", {
   expect_identical(as.character(board_journal(board_register(c(AAA = 1)))), character(0))
 })
 
+# Catches: a command that returns something else than its register, or prints it.
+test_that("commands return the register, so they follow each other in a pipe", {
+  r <- board_register(three())
+  chain <- list(
+    function(r) board_open(r, 9), function(r) board_move(r, "CCC", 9), function(r) board_submit(r, "suspend,AAA"),
+    function(r) board_undo(r), function(r) board_publish(r)
+  )
+  for (call in chain) {
+    shown <- withVisible(call(r))
+    expect_identical(shown, list(value = r, visible = FALSE))
+  }
+  what <- board_what_if(r) |> board_move("CCC", 2) |> board_indices("half")
+  expect_identical(what$chairs$swings, c(4, 4, 0, 0))
+})
+
+# Catches: a name that isn't there and yields NULL, as in a misspelled column, which unseats a member.
+test_that("NULL is no chair, and a register has no names", {
+  r <- board_register(three())
+  before <- parts(r)
+  wrong(board_move(r, "AAA", three()$Chair), paste0("the chair is NULL (NULL)", seats_are))
+  wrong(r$accepted, "a register has no $accepted: board_accepted() asks for it")
+  wrong(r$indices, "a register has no $indices: board_indices() asks for it")
+  wrong(r$Chairs, "a register has no $Chairs: ?board_state has its calls")
+  expect_identical(parts(r), before)
+  expect_output(str(r), "board_register")
+})
+
 test_that("readers see what is published", {
   r <- board_register(three())
   expect_identical(nrow(board_read(r, "half")$chairs), 0L)
   expect_identical(board_published(r), 0L)
-  expect_identical(board_publish(r), 6L)
+  expect_identical(board_published(board_publish(r)), 6L)
   expect_identical(board_read(r, "half"), board_indices(r, "half"))
   board_set_votes(r, "CCC", 100)
   expect_identical(board_read(r, "half"), board_indices(c(50, 49, 1), "half"))
@@ -148,14 +175,14 @@ test_that("a copy shares nothing, and undo goes back", {
   expect_identical(board_indices(other, "half")$chairs$swings, c(2, 2, 0))
   expect_identical(board_indices(other, "half")$chairs$name, c("a", "b", "c"))
   expect_identical(parts(r), before)
-  expect_identical(board_undo(other), 6L)
+  expect_identical(board_accepted(board_undo(other)), 6L)
   expect_identical(parts(other), before)
   expect_identical(parts(board_copy(r)), before)
-  expect_identical(board_undo(r, 2), 2L)
+  board_undo(r, 2)
   expect_identical(c(board_accepted(r), board_published(r)), c(2L, 2L))
   # Catches: readers that see commands that were taken back, or none of those that stay.
   expect_identical(board_read(r, "half"), board_indices(r, "half"))
-  expect_identical(board_undo(r, 0), 0L)
+  expect_identical(board_accepted(board_undo(r, 0)), 0L)
   refused(board_undo(r), "BadIndex", "to is -1: a whole number from 0 to the number of accepted commands")
   refused(board_undo(r, 1), "BadIndex", "to is 1: a whole number from 0 to the number of accepted commands")
   refused(board_undo(r, 0.5), "BadIndex", "to is 0.5: a whole number from 0 to the number of accepted commands")

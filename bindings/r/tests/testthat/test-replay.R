@@ -67,7 +67,7 @@ test_that("faults of the opening leave no register", {
   expect_null(run$fault)
   expect_identical(nrow(run$outcomes), 0L)
   expect_identical(nrow(as.data.frame(run)), 0L)
-  expect_identical(board_replay_text("member,votes\nscript"), list(text = "", fault = NULL))
+  expect_identical(lapply(board_replay_text("member,votes\nscript"), as.vector), list(text = "", fault = NULL))
 })
 
 test_that("limits are checked", {

@@ -127,6 +127,33 @@ pub(crate) fn check_chair(place: &str, chair: Option<u8>, sentence: &str) -> Res
     }
 }
 
+/// What is wrong with a field of a record, in the words of the call of its kind; none where it is no field.
+pub(crate) fn wrong_field(record: &str) -> Option<Refused> {
+    let fields: Vec<&str> = record.split(',').collect();
+    match fields[..] {
+        ["open" | "close", chair] => chair_in(chair, allowed::CHAIR).err(),
+        ["move", code, chair] => Code::new(code).err().or_else(|| match chair {
+            "none" => None,
+            _ => chair_in(chair, allowed::SEAT).err(),
+        }),
+        ["votes" | "admit", code, votes] => Code::new(code).and_then(|_| votes_in(code, votes)).err(),
+        ["suspend" | "restore" | "withdraw", code] => Code::new(code).err(),
+        _ => None,
+    }
+}
+
+fn chair_in(field: &str, sentence: &str) -> Result<(), Refused> {
+    let number =
+        field.parse().map_err(|_| Refused::new(Refusal::BadChair, format!("the chair is {field}: {sentence}")));
+    check_chair("the chair", Some(number?), sentence)
+}
+
+fn votes_in(code: &str, field: &str) -> Result<(), Refused> {
+    let place = format!("the votes of {code}");
+    let message = || format!("{place} are {field}: {}", allowed::VOTES);
+    check_votes(&place, field.parse().map_err(|_| Refused::new(Refusal::BadRecord, message()))?)
+}
+
 pub(crate) fn check_votes(place: &dyn fmt::Display, votes: u64) -> Result<(), Refused> {
     if votes > MEMBER_VOTES {
         return Err(Refused::new(Refusal::VotesTooLarge, format!("{place} are {votes}: {}", allowed::VOTES)));

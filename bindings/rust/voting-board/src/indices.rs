@@ -1,5 +1,7 @@
 use crate::{Fraction, Majority};
 use std::collections::BTreeMap;
+use std::ops::{Deref, Index};
+use std::{array, fmt, slice};
 use voting_board_sys::{board_chair, board_counts};
 
 /// An open chair and its voting power.
@@ -52,6 +54,55 @@ pub struct Indices {
     pub chairs: Vec<Chair>,
 }
 
+/// The counts of a board by each majority, which is their index. They are also an array, in the order of
+/// [`Majority::ALL`].
+///
+/// ```
+/// use voting_board::{indices_of_all, Majority};
+///
+/// let all = indices_of_all(&[50, 49, 1])?;
+/// assert_eq!(all[Majority::EightyFive].quota, 85);
+/// assert_eq!(all.iter().map(|it| it.quota).collect::<Vec<_>>(), [51, 70, 85, 50]);
+/// # Ok::<(), voting_board::Refused>(())
+/// ```
+#[derive(Clone, Debug, PartialEq, Eq, Hash)]
+#[cfg_attr(feature = "serde", derive(serde::Serialize, serde::Deserialize))]
+pub struct ByMajority([Indices; Majority::ALL.len()]);
+
+impl Index<Majority> for ByMajority {
+    type Output = Indices;
+
+    fn index(&self, majority: Majority) -> &Indices {
+        &self.0[majority as usize]
+    }
+}
+
+impl Deref for ByMajority {
+    type Target = [Indices; Majority::ALL.len()];
+
+    fn deref(&self) -> &Self::Target {
+        &self.0
+    }
+}
+
+impl IntoIterator for ByMajority {
+    type Item = Indices;
+    type IntoIter = array::IntoIter<Indices, { Majority::ALL.len() }>;
+
+    fn into_iter(self) -> Self::IntoIter {
+        self.0.into_iter()
+    }
+}
+
+impl<'a> IntoIterator for &'a ByMajority {
+    type Item = &'a Indices;
+    type IntoIter = slice::Iter<'a, Indices>;
+
+    fn into_iter(self) -> Self::IntoIter {
+        self.0.iter()
+    }
+}
+
 /// The names of chairs by number.
 pub(crate) type Names = BTreeMap<u8, String>;
 
@@ -66,8 +117,8 @@ impl Indices {
     }
 
     /// The counts by each majority, in the order of `Majority::ALL`.
-    pub(crate) fn of_all(counts: &[board_counts; Majority::ALL.len()], names: &Names) -> [Self; Majority::ALL.len()] {
-        Majority::ALL.map(|it| Self::new(it, &counts[it as usize], names))
+    pub(crate) fn of_all(counts: &[board_counts; Majority::ALL.len()], names: &Names) -> ByMajority {
+        ByMajority(Majority::ALL.map(|it| Self::new(it, &counts[it as usize], names)))
     }
 
     /// The open chair of this number.
@@ -83,6 +134,28 @@ impl Indices {
     pub fn chair(&self, chair: u8) -> Option<&Chair> {
         self.chairs.iter().find(|it| it.chair == chair)
     }
+}
+
+/// What wins in a line, then a table of the chairs, with indices to six decimals.
+impl fmt::Display for Indices {
+    fn fmt(&self, to: &mut fmt::Formatter<'_>) -> fmt::Result {
+        let size = if self.least_size > 0 { format!(" of {} chairs or more", self.least_size) } else { String::new() };
+        let Self { majority, quota, total, omega, coalitions, .. } = self;
+        write!(to, "Majority {majority}: {quota} of {total} votes{size} win, {omega} of {coalitions} coalitions do")?;
+        let name = |it: &Chair| it.name.clone().unwrap_or_default();
+        let width = self.chairs.iter().map(|it| name(it).chars().count()).max().unwrap_or(0);
+        for it in &self.chairs {
+            let [banzhaf, share, prevent, initiate] =
+                [Some(it.banzhaf), it.share, it.prevent, it.initiate].map(|it| it.map_or("-".to_string(), decimals));
+            write!(to, "\n{:>2} {:width$}{:>16} votes {:>11} swings", it.chair, name(it), it.weight, it.swings)?;
+            write!(to, "  banzhaf {banzhaf:>8}  share {share:>8}  prevent {prevent:>8}  initiate {initiate:>8}")?;
+        }
+        Ok(())
+    }
+}
+
+fn decimals(it: Fraction) -> String {
+    format!("{:.6}", f64::from(it))
 }
 
 impl Chair {

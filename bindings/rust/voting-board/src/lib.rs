@@ -44,10 +44,12 @@
 #![deny(unsafe_op_in_unsafe_fn, missing_docs)]
 
 mod board;
+mod chair_names;
 mod code;
 mod command;
 #[cfg(feature = "serde")]
 mod data;
+mod difference;
 mod fraction;
 mod indices;
 mod library;
@@ -63,8 +65,9 @@ mod table;
 pub use board::{indices, indices_of_all, indices_of_many, indices_of_members, Board};
 pub use code::Code;
 pub use command::Command;
+pub use difference::Difference;
 pub use fraction::Fraction;
-pub use indices::{Chair, Indices};
+pub use indices::{ByMajority, Chair, Indices};
 pub use limits::Limits;
 pub use majority::Majority;
 pub use names::{Refusal, CHAIRS, COMMANDS, INPUT_BYTES, MEMBERS, MEMBER_VOTES, READERS, TOTAL_VOTES, VERSION};

@@ -4,9 +4,9 @@ use crate::{Refusal, Refused};
 /// The limits of a register and of a replay: how many commands a journal accepts, and how many readers a replay has.
 ///
 /// ```
-/// use voting_board::{Limits, Refusal};
+/// use voting_board::{Limits, Refusal, Register};
 ///
-/// let mut register = Limits::new().journal(1).register([("AAA", 50)])?;
+/// let mut register = Register::with_limits(Limits::new().journal(1), [("AAA", 50)])?;
 /// register.open(1)?;
 /// assert_eq!(register.open(2).unwrap_err().refusal(), Refusal::JournalFull);
 ///

@@ -36,8 +36,7 @@ impl fmt::Display for Refusal {
     }
 }
 
-/// The error of this crate: a value, a command or an input is refused. Nothing has changed, except where memory runs
-/// out while [`Register::submit`](crate::Register::submit) takes records back.
+/// The error of this crate: a value, a command or an input is refused, and nothing has changed.
 ///
 /// Its text says where the value stands, what it is, and what is allowed.
 ///

@@ -1,8 +1,10 @@
-use crate::indices::Names;
+use crate::chair_names::ChairNames;
+use crate::command::check_chair;
 use crate::library::Handle;
+use crate::names::allowed;
 use crate::script::{self, Record, Text};
 use crate::table::names_of;
-use crate::{Code, Command, Indices, Limits, Majority, MemberRow, Refusal, Refused};
+use crate::{ByMajority, Code, Command, Indices, Limits, Majority, MemberRow, Refusal, Refused};
 use std::collections::{BTreeMap, BTreeSet, HashMap};
 use std::fmt::{self, Write};
 use voting_board_sys as sys;
@@ -60,7 +62,7 @@ impl From<Member> for MemberRow {
 /// ```
 pub struct Register {
     handle: Handle,
-    names: Names,
+    names: ChairNames,
 }
 
 /// Starts, and replays of whole scripts.
@@ -82,7 +84,7 @@ impl Register {
     /// # Ok::<(), voting_board::Refused>(())
     /// ```
     pub fn new<Row: Into<MemberRow>>(members: impl IntoIterator<Item = Row>) -> Result<Self, Refused> {
-        Limits::new().register(members)
+        Self::with_limits(Limits::new(), members)
     }
 
     /// The register of a script: its commands and publications are carried out, and its readings change nothing. A
@@ -99,42 +101,74 @@ impl Register {
     /// # Ok::<(), voting_board::Refused>(())
     /// ```
     pub fn from_script(text: impl AsRef<[u8]>) -> Result<Self, Refused> {
-        Limits::new().from_script(text)
+        Self::from_script_with_limits(Limits::new(), text)
     }
 
-    pub(crate) fn of_handle(handle: Handle) -> Self {
-        Self { handle, names: Names::new() }
-    }
-}
-
-impl Limits {
-    /// A register with this journal: see [`Register::new`].
-    pub fn register<Row: Into<MemberRow>>(self, members: impl IntoIterator<Item = Row>) -> Result<Register, Refused> {
-        self.check()?;
+    /// A register with the journal of some limits: see [`Register::new`].
+    ///
+    /// ```
+    /// use voting_board::{Limits, Refusal, Register};
+    ///
+    /// let mut register = Register::with_limits(Limits::new().journal(1), [("AAA", 50)])?;
+    /// register.open(1)?;
+    /// assert_eq!(register.open(2).unwrap_err().refusal(), Refusal::JournalFull);
+    /// # Ok::<(), voting_board::Refused>(())
+    /// ```
+    pub fn with_limits<Row: Into<MemberRow>>(
+        limits: Limits,
+        members: impl IntoIterator<Item = Row>,
+    ) -> Result<Self, Refused> {
+        limits.check()?;
         let rows: Vec<MemberRow> = members.into_iter().map(Into::into).collect();
         let (entries, commands) = opening_of(&rows)?;
         let names = names_of(&rows, Refusal::BadChair)?;
-        let mut register = Register { handle: Handle::start(&entries, self.journal)?, names };
+        let mut register = Self::of_handle(Handle::start(&entries, limits.journal)?);
         for command in commands {
             register.apply(&command)?;
         }
-        Ok(register)
+        register.with_names(names)
     }
 
-    /// The register of a script, with this journal: see [`Register::from_script`].
-    pub fn from_script(self, text: impl AsRef<[u8]>) -> Result<Register, Refused> {
-        self.check()?;
+    /// The register of a script, with the journal of some limits: see [`Register::from_script`].
+    pub fn from_script_with_limits(limits: Limits, text: impl AsRef<[u8]>) -> Result<Self, Refused> {
+        limits.check()?;
         let text = text.as_ref();
         let read = script::read_script(text)?;
         let fault = read.fault.map(|it| it.refused(text));
         if let Some(why) = fault.as_ref().filter(|_| read.records.is_empty()) {
             return Err(why.clone());
         }
-        let mut register = Register::of_handle(Handle::start(&read.members, self.journal)?);
+        let mut register = Self::of_handle(Handle::start(&read.members, limits.journal)?);
         for record in read.records.iter().filter(|it| it.command.kind != sys::BOARD_READ) {
             register.carry_out(record)?;
         }
         fault.map_or(Ok(register), Err)
+    }
+
+    /// This register with names of open chairs, such as those that [`chair_names`](Self::chair_names) gives, since a
+    /// script has none. Refused as by [`rename`](Self::rename).
+    ///
+    /// ```
+    /// use voting_board::Register;
+    ///
+    /// let mut register = Register::new([("AAA", 50)])?;
+    /// register.open_named(25, "West")?;
+    /// let again = Register::from_script(register.script())?.with_names(register.chair_names())?;
+    /// assert_eq!(again.chair_name(25), Some("West"));
+    /// # Ok::<(), voting_board::Refused>(())
+    /// ```
+    pub fn with_names<Name: AsRef<str>>(
+        mut self,
+        names: impl IntoIterator<Item = (u8, Name)>,
+    ) -> Result<Self, Refused> {
+        for (chair, name) in names {
+            self.rename(chair, name.as_ref())?;
+        }
+        Ok(self)
+    }
+
+    pub(crate) fn of_handle(handle: Handle) -> Self {
+        Self { handle, names: ChairNames::default() }
     }
 }
 
@@ -162,6 +196,42 @@ impl Register {
     /// Opens a closed chair, from 1 to 32.
     pub fn open(&mut self, chair: u8) -> Result<u32, Refused> {
         self.apply(&Command::Open { chair })
+    }
+
+    /// Opens a closed chair, which has this name until it is closed: a chair that is closed and opened again is a new
+    /// chair, without a name.
+    pub fn open_named(&mut self, chair: u8, name: impl Into<String>) -> Result<u32, Refused> {
+        let accepted = self.open(chair)?;
+        self.names.set(accepted, Some(name.into()));
+        Ok(accepted)
+    }
+
+    /// Gives an open chair another name, or none, from when it was opened until it is closed. It is no command: the
+    /// journal, scripts and [`undo`](Self::undo) know nothing of it.
+    ///
+    /// A closed chair is refused as [`Refusal::ChairNotOpen`], and one that isn't from 1 to 32 as
+    /// [`Refusal::BadChair`].
+    ///
+    /// ```
+    /// use voting_board::Register;
+    ///
+    /// let mut register = Register::new([("AAA", 50)])?;
+    /// register.open_named(25, "West")?;
+    /// register.rename(25, "North-West")?;
+    /// assert_eq!(register.chair_name(25), Some("North-West"));
+    /// register.rename(25, None)?;
+    /// assert_eq!(register.chair_name(25), None);
+    /// # Ok::<(), voting_board::Refused>(())
+    /// ```
+    pub fn rename<'a>(&mut self, chair: u8, name: impl Into<Option<&'a str>>) -> Result<(), Refused> {
+        check_chair("the chair", Some(chair), allowed::CHAIR)?;
+        let refused = || {
+            let refusal = Refusal::ChairNotOpen;
+            Refused::new(refusal, format!("no name for chair {chair}: {}", Refused::from(refusal)))
+        };
+        let opening = self.names.opening(&self.handle, chair).ok_or_else(refused)?;
+        self.names.set(opening, name.into().map(String::from));
+        Ok(())
     }
 
     /// Closes an open chair without members.
@@ -238,8 +308,7 @@ impl Register {
     /// The refusal has the number of the record and its text.
     ///
     /// A record that isn't well formed, and a `read`, are refused as [`Refusal::BadRecord`]. Where memory runs out,
-    /// [`Refusal::OutOfMemory`] refuses all records; but if it runs out while records are taken back, those before the
-    /// refused one stay carried out.
+    /// [`Refusal::OutOfMemory`] refuses all records. Two or more are carried out on a copy.
     ///
     /// ```
     /// use voting_board::Register;
@@ -268,7 +337,7 @@ impl Register {
         Ok(self.handle.publish()?)
     }
 
-    /// Takes the register back to its first `accepted` commands, and frees the others. Those of them that were
+    /// Takes the register back to its first `accepted` commands, and returns their number. Those of them that were
     /// published stay published: if more than `accepted` were, all that are left are published, and
     /// [`read`](Self::read) counts the register after them.
     ///
@@ -280,22 +349,23 @@ impl Register {
     ///
     /// let mut register = Register::new([("AAA", 50)])?;
     /// register.submit("open,1\nopen,2\n")?;
-    /// register.undo_to(1)?;
+    /// assert_eq!(register.undo_to(1)?, 1);
     /// assert_eq!(register.chairs().len(), 1);
     /// # Ok::<(), voting_board::Refused>(())
     /// ```
-    pub fn undo_to(&mut self, accepted: u32) -> Result<(), Refused> {
+    pub fn undo_to(&mut self, accepted: u32) -> Result<u32, Refused> {
         if accepted > self.accepted() {
             let message = format!("the length is {accepted}: {}", crate::names::allowed::LENGTH);
             return Err(Refused::new(Refusal::BadIndex, message));
         }
         self.handle = self.handle.copy(accepted)?;
-        Ok(())
+        self.names.undo_to(accepted);
+        Ok(accepted)
     }
 
     /// Takes back the last command: see [`undo_to`](Self::undo_to). Where there is none, it is refused as
     /// [`Refusal::BadIndex`].
-    pub fn undo(&mut self) -> Result<(), Refused> {
+    pub fn undo(&mut self) -> Result<u32, Refused> {
         let no_command = || Refused::new(Refusal::BadIndex, "there is no command to take back".to_string());
         self.undo_to(self.accepted().checked_sub(1).ok_or_else(no_command)?)
     }
@@ -317,33 +387,21 @@ impl Register {
         })
     }
 
-    /// Carries out all records; or puts the register back as it was, if one is refused or a fault follows them.
+    /// Carries out all records; or none, if one is refused or a fault follows them. More than one are carried out on a
+    /// copy, which then takes the register's place, so no memory is needed where the register stays as it is.
     fn carry_out_all(&mut self, records: &[Record], fault: Option<Refused>) -> Result<u32, Refused> {
-        let before = self.accepted();
-        let mut unpublished = None;
-        // A copy takes back commands alone, so one from before the first publication is kept where any may follow it.
-        let follow = fault.is_some();
-        let result = self.carry_out_each(records, follow, &mut unpublished).and(fault.map_or(Ok(()), Err));
-        if result.is_err() && (self.accepted() > before || unpublished.is_some()) {
-            self.handle = unpublished.as_ref().unwrap_or(&self.handle).copy(before)?;
+        if let ([] | [_], None) = (records, &fault) {
+            records.first().map_or(Ok(0), |it| self.carry_out(it))?;
+            return Ok(self.accepted());
         }
-        result.map(|()| self.accepted())
-    }
-
-    fn carry_out_each(
-        &mut self,
-        records: &[Record],
-        follow: bool,
-        unpublished: &mut Option<Handle>,
-    ) -> Result<(), Refused> {
-        for (left, record) in (0..records.len()).rev().zip(records) {
-            let is_last = left == 0 && !follow;
-            if record.command.kind == sys::BOARD_PUBLISH && unpublished.is_none() && !is_last {
-                *unpublished = Some(self.handle.copy(u32::MAX)?);
-            }
-            self.carry_out(record)?;
+        let copy = self.handle.copy(u32::MAX)?;
+        let before = std::mem::replace(&mut self.handle, copy);
+        let result = records.iter().try_for_each(|it| self.carry_out(it).map(|_| ())).and(fault.map_or(Ok(()), Err));
+        if let Err(why) = result {
+            self.handle = before;
+            return Err(why);
         }
-        Ok(())
+        Ok(self.accepted())
     }
 }
 
@@ -401,9 +459,16 @@ impl Register {
         chairs
     }
 
-    /// The name of a chair, if the table of members had one.
+    /// The name of an open chair, if it was given one: by the table of members, by [`open_named`](Self::open_named), by
+    /// [`rename`](Self::rename), or by [`with_names`](Self::with_names).
     pub fn chair_name(&self, chair: u8) -> Option<&str> {
-        self.names.get(&chair).map(String::as_str)
+        self.names.get(&self.handle, chair).map(String::as_str)
+    }
+
+    /// The names of the open chairs that have one, by number. A script has none: they are saved next to it, and
+    /// [`with_names`](Self::with_names) takes them.
+    pub fn chair_names(&self) -> BTreeMap<u8, String> {
+        self.names.now(&self.handle)
     }
 
     /// The accepted commands in their order.
@@ -422,18 +487,18 @@ impl Register {
 
     /// The counts as the register stands, by a majority.
     pub fn indices(&self, majority: Majority) -> Result<Indices, Refused> {
-        Ok(Indices::new(majority, &self.handle.counts(majority)?, &self.names))
+        Ok(Indices::new(majority, &self.handle.counts(majority)?, &self.chair_names()))
     }
 
     /// The counts as the register stands, by each majority, in the order of [`Majority::ALL`].
-    pub fn indices_of_all(&self) -> Result<[Indices; Majority::ALL.len()], Refused> {
-        Ok(Indices::of_all(&self.handle.all_counts()?, &self.names))
+    pub fn indices_of_all(&self) -> Result<ByMajority, Refused> {
+        Ok(Indices::of_all(&self.handle.all_counts()?, &self.chair_names()))
     }
 
     /// The counts of the register after its published commands, which is what readers see. Before the first publication
     /// that is the opening: no chair is open.
     pub fn read(&self, majority: Majority) -> Result<Indices, Refused> {
-        Ok(Indices::new(majority, &self.handle.read(majority)?, &self.names))
+        Ok(Indices::new(majority, &self.handle.read(majority)?, &self.names.published(&self.handle)))
     }
 
     /// The register as a script: its opening, and the accepted commands, with `publish` after the published ones.
@@ -455,12 +520,20 @@ impl Register {
 
 impl fmt::Debug for Register {
     fn fmt(&self, to: &mut fmt::Formatter<'_>) -> fmt::Result {
-        let members: BTreeMap<Code, u64> = self.rows().map(|it| (it.code, it.votes)).collect();
         to.debug_struct("Register")
-            .field("members", &members)
-            .field("chairs", &self.chairs())
+            .field("members", &self.rows().count())
+            .field("chairs", &self.chairs().len())
             .field("accepted", &self.accepted())
             .field("published", &self.published())
             .finish()
+    }
+}
+
+/// How much it holds, in a line.
+impl fmt::Display for Register {
+    fn fmt(&self, to: &mut fmt::Formatter<'_>) -> fmt::Result {
+        let (members, chairs) = (self.rows().count(), self.chairs().len());
+        let (accepted, published) = (self.accepted(), self.published());
+        write!(to, "{members} members and {chairs} open chairs: {accepted} commands accepted, {published} published")
     }
 }

@@ -1,4 +1,5 @@
 //! Texts with records, which the library reads.
+use crate::command::wrong_field;
 use crate::library::{self, Script};
 use crate::names::{INPUT_BYTES, READERS};
 use crate::{Refusal, Refused};
@@ -37,6 +38,8 @@ impl Fault {
         let mut message = format!("{} ({}), {}", self.refusal, self.refusal.number(), self.refusal.reason());
         if let Some(offset) = self.after {
             message += &format!(", after byte {offset}");
+            let field = (self.refusal == Refusal::BadRecord).then(|| wrong_field(line_at(text, offset))).flatten();
+            message += &field.map_or(String::new(), |why| format!(": {why}"));
         }
         if self.refusal == Refusal::BadHeader && !text.contains(&b'\n') {
             message += "; replay_file replays the file of a path";
@@ -48,6 +51,13 @@ impl Fault {
             refused
         }
     }
+}
+
+/// The first line from an offset of a text on that isn't empty; empty if it isn't UTF-8.
+fn line_at(text: &[u8], offset: usize) -> &str {
+    let is_end = |it: &u8| matches!(it, b'\r' | b'\n');
+    let line = text[offset..].split(is_end).find(|it| !it.is_empty()).unwrap_or_default();
+    std::str::from_utf8(line).unwrap_or_default()
 }
 
 /// The members, the records and the fault of a text.

@@ -84,13 +84,13 @@ fn boards_are_counted_as_by_the_program() {
     let mut got = String::new();
     for (((total, weights), board), many) in boards.iter().zip(&given).zip(&many) {
         let all = board.indices_of_all().unwrap();
-        assert_eq!(&all[..], &many[..]);
-        assert_eq!(all, Majority::ALL.map(|it| board.indices(it).unwrap()));
+        assert!(all.iter().eq(many));
+        assert_eq!(*all, Majority::ALL.map(|it| board.indices(it).unwrap()));
         let members = by_members(*total, weights);
-        assert_eq!(all, Majority::ALL.map(|it| indices_of_members(&members, &[], it).unwrap()));
+        assert_eq!(*all, Majority::ALL.map(|it| indices_of_members(&members, &[], it).unwrap()));
         if weights.iter().sum::<u64>() == *total {
             assert_eq!(all, indices_of_all(weights).unwrap());
-            assert_eq!(all[0], indices(weights, Majority::Half).unwrap());
+            assert_eq!(all[Majority::Half], indices(weights, Majority::Half).unwrap());
         }
         let numbers: Vec<String> = [*total].iter().chain(weights).map(u64::to_string).collect();
         got += &format!("board,{}\n", numbers.join(","));
@@ -135,7 +135,7 @@ fn check_rest(limits: Limits, input: &[u8], outcomes: &[Outcome], fault: Option<
         Ok(register) => {
             let accepted = outcomes.iter().filter(|it| matches!(it, Outcome::Accepted { .. })).count();
             assert_eq!(register.accepted() as usize, accepted);
-            let again = limits.from_script(register.script()).unwrap();
+            let again = Register::from_script_with_limits(limits, register.script()).unwrap();
             assert_same(&again, &register);
         }
         Err(why) => assert_eq!((Some(why), outcomes.len()), (fault, 0)),
@@ -186,7 +186,7 @@ fn lines_by(register: &mut Register, record: &str, way: Way) -> String {
         let majority = majority.parse().unwrap();
         let seen = register.read(majority).unwrap();
         assert_eq!(seen, register.indices(majority).unwrap());
-        assert_eq!(seen, register.indices_of_all().unwrap()[majority as usize]);
+        assert_eq!(seen, register.indices_of_all().unwrap()[majority]);
         return format!("reading,1,{},{}", register.published(), lines_of(&seen));
     }
     let before = format!("{register:?}");

@@ -127,25 +127,25 @@ fn tables_of_a_register() {
 
 #[test]
 fn limits() {
-    for (number, register) in [0, 1_000_001, u32::MAX].map(|it| (it, Limits::new().journal(it))) {
+    for (number, limits) in [0, 1_000_001, u32::MAX].map(|it| (it, Limits::new().journal(it))) {
         let message = format!("the journal is {number}: a whole number from 1 to 1000000");
-        assert_refused(register.register([("AAA", 1)]), Refusal::BadLimit, &message);
-        assert_refused(register.replay(""), Refusal::BadLimit, &message);
-        assert_refused(register.replay_text(""), Refusal::BadLimit, &message);
-        assert_refused(register.from_script(""), Refusal::BadLimit, &message);
+        assert_refused(Register::with_limits(limits, [("AAA", 1)]), Refusal::BadLimit, &message);
+        assert_refused(limits.replay(""), Refusal::BadLimit, &message);
+        assert_refused(limits.replay_text(""), Refusal::BadLimit, &message);
+        assert_refused(Register::from_script_with_limits(limits, ""), Refusal::BadLimit, &message);
     }
     for readers in [0, 5, u32::MAX] {
         let message = format!("the number of readers is {readers}: a whole number from 1 to 4");
         assert_refused(Limits::new().readers(readers).replay(""), Refusal::BadLimit, &message);
         assert_refused(Limits::new().readers(readers).replay_text(""), Refusal::BadLimit, &message);
     }
-    let mut register = Limits::new().journal(1).register([("AAA", 1)]).unwrap();
+    let mut register = Register::with_limits(Limits::new().journal(1), [("AAA", 1)]).unwrap();
     register.open(1).unwrap();
     let message = "refused 'open,2': JournalFull (9), as many commands as the journal limit were accepted";
     assert_refused(register.open(2), Refusal::JournalFull, message);
     let message = "refused 'open,2': JournalFull (9), as many commands as the journal limit were accepted";
     let table = [seated("AAA", 1, 1), seated("BBB", 1, 2)];
-    assert_refused(Limits::new().journal(1).register(&table), Refusal::JournalFull, message);
+    assert_refused(Register::with_limits(Limits::new().journal(1), &table), Refusal::JournalFull, message);
 }
 
 #[test]
@@ -211,6 +211,17 @@ fn texts_that_a_register_refuses() {
     bad("open,2\npublish\nread,1,85\n", Refusal::BadRecord, 3, "record 3: 'read,1,85' is no command");
     bad("open,2\nread,1,\"half\"\n", Refusal::BadRecord, 2, "record 2: 'read,1,\"half\"' is no command");
     bad("member,votes\n", Refusal::BadRecord, 1, "record 1: BadRecord (17), a record is not well formed, after byte 0");
+    // Catches: a text that is refused in other words than the call of its kind.
+    let message = "record 1: BadRecord (17), a record is not well formed, after byte 0: ";
+    for (text, field) in [
+        ("open,99", "the chair is 99: a chair is a whole number from 1 to 32"),
+        ("open,999", "the chair is 999: a chair is a whole number from 1 to 32"),
+        ("move,AAA,x", "the chair is x: a chair is a whole number from 1 to 32, or None for no chair"),
+        ("suspend,aaa", "the code is 'aaa': a code is three ASCII capitals"),
+        ("votes,AAA,-5", "the votes of AAA are -5: votes are whole numbers from 0 to 1099511627776"),
+    ] {
+        bad(text, Refusal::BadRecord, 1, &format!("{message}{field}"));
+    }
     assert_eq!(register.submit(""), Ok(1));
     assert_eq!(register.submit(b"open,2\r\n\"open\",\"3\""), Ok(3));
 }

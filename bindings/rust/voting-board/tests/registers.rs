@@ -83,7 +83,7 @@ fn undo_keeps_what_was_published() {
     let mut register = three();
     register.publish().unwrap();
     register.open(4).unwrap();
-    register.undo().unwrap();
+    assert_eq!(register.undo().unwrap(), register.accepted());
     assert_eq!((register.accepted(), register.published(), register.chairs().len()), (6, 6, 3));
     register.undo_to(2).unwrap();
     assert_eq!((register.accepted(), register.published(), register.chairs().len()), (2, 2, 2));
@@ -95,12 +95,18 @@ fn undo_keeps_what_was_published() {
 }
 
 #[test]
-fn debug_is_one_line() {
+fn what_is_printed() {
     let mut register = Register::new([("BBB", 5), ("AAA", 7)]).unwrap();
     register.submit("open,2\nmove,AAA,2\npublish\nopen,1\n").unwrap();
-    let wanted = "Register { members: {AAA: 7, BBB: 5}, chairs: {1: [], 2: [AAA]}, accepted: 3, published: 2 }";
-    assert_eq!(format!("{register:?}"), wanted);
+    assert_eq!(format!("{register:?}"), "Register { members: 2, chairs: 2, accepted: 3, published: 2 }");
+    assert_eq!(register.to_string(), "2 members and 2 open chairs: 3 commands accepted, 2 published");
     assert_eq!(format!("{:?}", Fraction::new(2, 4)), "Some(1/2)");
+    let board = Board::named([("North", 50), ("", 49)]).indices(Majority::Quorum).unwrap();
+    let printed = board.to_string();
+    let lines: Vec<_> = printed.lines().map(|it| it.split_whitespace().collect::<Vec<_>>().join(" ")).collect();
+    assert_eq!(lines[0], "Majority quorum: 50 of 99 votes of 2 chairs or more win, 1 of 4 coalitions do");
+    let rest = "1 swings banzhaf 0.500000 share 0.500000 prevent 1.000000 initiate 0.333333";
+    assert_eq!(lines[1..], [format!("1 North 50 votes {rest}"), format!("2 49 votes {rest}")]);
 }
 
 #[test]
@@ -278,7 +284,10 @@ fn a_small_stack_is_enough() {
     let small = thread::Builder::new().stack_size(512 * 1024);
     let count = || {
         let register = Register::from_script(three().script()).unwrap();
-        (register.indices_of_all().unwrap()[3].omega, replay_text(register.script()).unwrap().0.lines().count())
+        (
+            register.indices_of_all().unwrap()[Majority::Quorum].omega,
+            replay_text(register.script()).unwrap().0.lines().count(),
+        )
     };
     assert_eq!(small.spawn(count).unwrap().join().unwrap(), (4, 6));
 }

@@ -1,0 +1,16 @@
+//! The register of a handle, lent.
+ghost use Rattle.std.specs.Prelude.{◌≡◌};
+ghost use types.Logic.{sem};
+ghost use Rattle.board_c.specs.Lending.{LendsRegister};
+
+use crate::register::handles::BoardRegister;
+use council_core::PublishedRegister;
+
+// The register of a handle that has one.
+pub(crate) fn register_of(handle: &mut BoardRegister) -> &mut PublishedRegister
+    requires live { handle.old.state ≡ 1 }
+    ensures* writes_back { sem 𝓛 (LendsRegister handle.entry result) }
+    ensures value { result.now ≡ handle.old.register }
+{
+    unsafe { &mut *(handle.at as *mut PublishedRegister) }
+}

@@ -1,0 +1,66 @@
+//! The two kinds of run, and their limits.
+ghost use Rattle.std.specs.Prelude.{◌≡◌};
+ghost use Rattle.recording_io.specs.Tapes.{OfInput};
+ghost use Rattle.board_runs.specs.Ended.{WritesOutput};
+ghost use Rattle.board_runs.specs.Replays.{run_of};
+ghost use Rattle.board_runs.specs.Traces.{trace_of};
+ghost use Rattle.board_c.specs.Kinds.{run_as};
+ghost use Rattle.board_c.specs.declared.runs.kinds.Kind.{Kind};
+
+use board_runs::{replay, trace};
+use board_text::{Fault, Limits};
+use recording_io::RecordingReader;
+use std::alloc::Global;
+use std::io::{Read, Write};
+
+// A run of a script on the register, or of a schedule on the two-copy machine.
+#[derive(Clone, Copy)]
+pub(crate) enum Kind {
+    Replay,
+    Trace,
+}
+
+// A replay. It isn't inlined, so that a call needs the stack of one kind of run and not of both.
+#[inline(never)]
+fn run_replay<R: Read + Drop, W: Write>(
+    alloc: Global,
+    input: &mut RecordingReader<R>,
+    out: &mut W,
+    limits: Limits,
+) -> Result<(), Fault>
+    ensures wrote { OfInput input.old input.new
+        (λ bytes. WritesOutput (W.contents out.old) (W.contents out.new) result (run_of limits bytes)) }
+{
+    replay(alloc, input, out, limits)
+}
+
+// A trace, which isn't inlined either.
+#[inline(never)]
+fn run_trace<R: Read + Drop, W: Write>(
+    alloc: Global,
+    input: &mut RecordingReader<R>,
+    out: &mut W,
+    limits: Limits,
+) -> Result<(), Fault>
+    ensures wrote { OfInput input.old input.new
+        (λ bytes. WritesOutput (W.contents out.old) (W.contents out.new) result (trace_of limits bytes)) }
+{
+    trace(alloc, input, out, limits)
+}
+
+// Runs an input, and writes the lines of the run.
+pub(crate) fn carry_out<R: Read + Drop, W: Write>(
+    alloc: Global,
+    kind: Kind,
+    input: &mut RecordingReader<R>,
+    out: &mut W,
+    limits: Limits,
+) -> Result<(), Fault>
+    ensures wrote { OfInput input.old input.new
+        (λ bytes. WritesOutput (W.contents out.old) (W.contents out.new) result (run_as kind limits bytes)) }
+{
+    match kind {
+        Kind::Replay => run_replay(alloc, input, out, limits),
+        Kind::Trace => run_trace(alloc, input, out, limits),
+    }
+}

@@ -1,5 +1,0 @@
-pub mod Values
-pub mod Fields
-pub mod ReplyFacts
-pub mod HandleFacts
-mod WorkedCases

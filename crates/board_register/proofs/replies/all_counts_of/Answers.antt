@@ -1,7 +1,0 @@
-use Rattle.std.proofs.Common.{List, ℕ, ap, subst, ◌∙◌}
-use Rattle.council_core.specs.Ledgers.{Ledger, sheet_of}
-use Rattle.c_values.specs.Counts.{ShowsAllCounts}
-use Rattle.board_register.proofs.replies.all_counts_of.Goals as goal
-
-pub returns : goal.returns
-returns c = subst (λ (words : List ℕ). ShowsAllCounts words c.all_counts_of_sheet.result) c.own_sheet.ensures.same c.all_counts_of_sheet.ensures.counts

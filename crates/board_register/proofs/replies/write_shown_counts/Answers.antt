@@ -1,8 +1,0 @@
-use Rattle.std.proofs.Common.{List, ℕ, subst}
-use Rattle.board_register.specs.Calls.{WritesCounts}
-use Rattle.board_register.proofs.replies.write_shown_counts.Goals as goal
-
-pub returns : goal.returns
-returns c =
-    subst (λ (words : List ℕ). WritesCounts c.args.majority words c.write_counts.result c.args.counts.now c.write_counts.new.counts)
-    c.shown_sheet.ensures.same c.write_counts.ensures

@@ -1,5 +1,0 @@
-mod KindFacts
-mod LimitFacts
-mod RoomCases
-mod TextFacts
-mod WorkedCases

@@ -1,8 +1,0 @@
-mod ListFacts
-mod LineFacts
-mod PlaceFacts
-mod PlainFacts
-mod ItemFacts
-mod InputFacts
-mod ShownCases
-mod WorkedCases

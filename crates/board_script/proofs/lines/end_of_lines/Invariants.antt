@@ -1,9 +1,0 @@
-use Rattle.std.proofs.Common.{length, ◌≡◌, ◌≤◌}
-use Rattle.board_script.specs.TextLines.{lines_end, mark_size}
-use Rattle.board_script.proofs.lines.end_of_lines.Given as goal
-
-abbrev pub invariant-loop-passed : goal.invariant-loop-passed
-invariant-loop-passed l = record {
-  within : l.at ≤ length l.text;
-  same : l.at ≡ lines_end l._passed l.text (mark_size l.text);
-}

@@ -1,5 +1,0 @@
-pub mod Spans
-pub mod TextLines
-pub mod Items
-pub mod Contents
-pub mod Written
