@@ -76,7 +76,7 @@ checked := --logic-built $(KIT)/logic_built --jobs 1
 # The prover's run in a crate's folder, whose output is shown if it fails.
 rattle  = (cd crates/$1 && $(KIT)/bin/rattle $2 >$O/$(@F).log 2>&1 || { cat $O/$(@F).log >&2; exit 1; })
 
-# rt keeps no checked static library, no tests, and no LLVM module. So the static libraries, and the program and the
+# rt keeps no checked static library, no tests, and no LLVM module. So the static library, and the program and the
 # tests that tools/steps looks at, are proved once more, for their modules, NAME.bc. A toolchain like the kit's, whose
 # clang keeps the module, builds them; the prover starts it without an environment, so the script has the file's name.
 define toolchain
@@ -123,7 +123,7 @@ page/out/board.wasm: board.html page/module
 portable/wasm/out/board.wasm: $(modules) tools/retarget portable/wasm/build portable/wasm/heap.c
 	@portable/wasm/build
 one-file: portable/out/board.c  ## the C file made again, portable/out/board.c
-portable/out/board.c: $(modules) tools/retarget crates/board_c/board.h crates/board_c/names.c portable/build
+portable/out/board.c: $(modules) tools/retarget crates/board_c/board.h crates/board_c/texts.c portable/build
 portable/out/board.c: $(wildcard portable/src/*.c)
 	@portable/build
 page: $(MODULE)  ## the page, page/out/board.html
@@ -156,12 +156,13 @@ prove: $O/proved  ## proofs of all crates by rt ci, and their tests
 	$(call said,tail -n 2 $<)
 steps: $(stepped)  ## the atomic steps, memory and writes of the compiled code
 	$(call said,tools/steps tools/steps.txt $^)
-steps-tests: $O/memory_tests.bc  ## changes planted in the compiled code, which steps must refuse
+steps-tests: $O/memory_tests.bc $O/board.bc  ## changes planted in the compiled code, which steps must refuse
 	$(call said,tests/run tests/steps)
-every = $(if $(DEEP),$(EDITED))
+every   = $(if $(DEEP),$(EDITED))
+changed = $(or $(every),$(if $(KIT),$(shell tools/edits.py --untried)))
 edits:  ## the mutations of the crates that have changed since theirs were tried, or of ONLY=CRATE; writes the records
-	@$(MAKE) --keep-going $(or $(patsubst %,$O/%.edits,$(or $(ONLY),$(every),$(shell tools/edits.py --untried))),tried)
-tried:  ## the mutations, by the records of those that were tried
+	@$(MAKE) --keep-going $(or $(patsubst %,$O/%.edits,$(or $(ONLY),$(changed))),tried)
+tried: $$(patsubst %,$$O/%.edits,$$(changed))  ## the mutations: by their records, and tried where a crate has changed
 	$(call said,tools/edits.py --tried)
 # One list of mutations of one crate, drawn by the commit, tried over no kept work.
 COMMIT := $(shell git rev-parse --short=7 HEAD 2>/dev/null || echo 0)
@@ -213,9 +214,10 @@ from-text: $(CRATES:%=$O/deep/%.proved)  ## all proofs, the toolchain's too, fro
 
 # The parts that come first, those that need no proof, those that do, which run beside them, and those of the deep gate
 # alone.
-FIRST    := docs lint tried style tools
+FIRST    := docs lint style tools
 UNPROVED := page-tests r python rust javascript recipes tables page-units
-PROVED   := prove drawn definitions stress memory cases independent register script steps steps-tests targets compilers
+PROVED   := prove tried drawn definitions stress memory cases independent register script steps steps-tests
+PROVED   += targets compilers
 DEEPER   := release-tests second
 CHECKS   := docs lint tables page-units cases independent
 .PHONY: $(FIRST) $(UNPROVED) $(PROVED) $(DEEPER) edits unproved proved

@@ -53,17 +53,6 @@ static uint64_t by_half(const uint64_t *words) {
     return board_counts_of_sheet(words, BOARD_SHEET_WORDS, BOARD_HALF, &room, &counts) ? 0 : digest(&counts);
 }
 
-static uint64_t by_quorum(const uint64_t *words) {
-    struct board_counts counts;
-    return board_counts_of_sheet(words, BOARD_SHEET_WORDS, BOARD_QUORUM, &room, &counts) ? 0 : digest(&counts);
-}
-
-static uint64_t by_all(const uint64_t *words) {
-    struct board_all_counts all;
-    if (board_all_counts_of_sheet(words, BOARD_SHEET_WORDS, &room, &all)) return 0;
-    return digest(&all.half) + digest(&all.seventy) + digest(&all.eighty_five) + digest(&all.quorum);
-}
-
 static void time_calls(const char *board, const char *part, uint64_t (*call)(const uint64_t *)) {
     uint64_t least = UINT64_MAX, sum = 0;
     for (int round = 0; round < ROUNDS; round++) {
@@ -78,8 +67,6 @@ static void time_calls(const char *board, const char *part, uint64_t (*call)(con
 static void time_board(const char *board, size_t chairs, uint64_t base, uint64_t span) {
     make_sheets(chairs, base, span);
     time_calls(board, "full", by_half);
-    time_calls(board, "quorum", by_quorum);
-    time_calls(board, "all", by_all);
 }
 
 int main(void) {

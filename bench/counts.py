@@ -11,38 +11,21 @@ import sys
 from collections.abc import Callable, Iterator
 from pathlib import Path
 
-from library import WORK
 from tables import BOARDS, micros
 
 # The board and the part that is timed, with the nanoseconds; and the counts.
 Nanos = dict[tuple[str, str], int]
 Counts = dict[tuple[str, str], list[str]]
-# What bench/register.c replays.
-SCRIPT = WORK / "script.csv"
 
 
 def printed(*words: str | Path) -> str:
     return subprocess.run(list(words), check=True, stdout=subprocess.PIPE, text=True).stdout
 
 
-def call_times(program: Path) -> dict[str, float]:
-    """The nanoseconds of the calls that bench/register.c times."""
-    pairs = (line.split("\t") for line in printed(program, SCRIPT).splitlines())
-    return {name: float(ns) for name, ns in pairs}
-
-
 def seconds_of_children() -> float:
     """The processor time in seconds of everything run so far, to the microsecond. GNU `time` prints hundredths."""
     used = resource.getrusage(resource.RUSAGE_CHILDREN)
     return used.ru_utime + used.ru_stime
-
-
-def replay_time(program: Path, script: Path) -> float:
-    """The nanoseconds of processor time of a replay by the program, whose output it reads."""
-    before = seconds_of_children()
-    with script.open("rb") as given:
-        subprocess.run([program, "replay"], stdin=given, stdout=subprocess.PIPE, check=True)
-    return (seconds_of_children() - before) * 1e9
 
 
 def times_in(lines: str) -> tuple[Counts, Nanos]:

@@ -14,7 +14,6 @@ WORK = OUT / "bench"
 CRATES = ["council_core", "majority_rule", "half_sums", "swing_walk", "power_index"]
 MORE = {
     "timing": ["anyhow"],
-    "auditing": ["anyhow", "board_audits"],
     "reading": ["anyhow", "left_right", "board_audits", "two_copy_steps", "board_share"],
 }
 
@@ -31,7 +30,7 @@ def make(goal: str) -> None:
 
 
 def build(program: str) -> list[str]:
-    """Proves and builds a program over the library: timing, auditing or reading. Returns its command."""
+    """Proves and builds a program over the library: timing or reading. Returns its command."""
     make("proved")
     folder, tools = WORK / program, kit()
     (folder / "src").mkdir(parents=True, exist_ok=True)

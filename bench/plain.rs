@@ -1,12 +1,11 @@
 //! The same work as the library and the program, in plain Rust with no proof, to measure against.
 //!
-//!     plain indices              times the indices of four boards, and the table over vote totals
+//!     plain indices              times the indices of five boards
 //!     plain records COUNT EVERY  prints the input of a long replay, COUNT records in all, one in EVERY a reading
 //!     plain replay READERS LIMIT the replay of the input, each line written as it is made
 mod counting;
 
 use counting::Board;
-use std::array::from_fn;
 use std::collections::HashMap;
 use std::fmt::Write as _;
 use std::io::{self, Read, Write};
@@ -107,10 +106,8 @@ impl Evaluator {
 
 // ---------------------------------------------------------------- timing of the indices
 
-/// Sheets recounted in turn, so that branch prediction can't learn them, the sheets of a sweep, and rounds through all
-/// of them.
+/// Sheets recounted in turn, so that branch prediction can't learn them, and rounds through all of them.
 const SHEETS: usize = 16;
-const VALUES: u64 = 1_000;
 const ROUNDS: usize = 12;
 
 /// Numbers by xorshift (Marsaglia 2003), the same ones in both programs.
@@ -167,64 +164,6 @@ fn least(sheets: &[Words], by: &[Majority], before: impl Fn(usize) -> Option<Wor
     (least, sum)
 }
 
-/// Omega and the swings of every chair by a table over all vote totals below the quota, as other voting power programs
-/// count them (Mann and Shapley 1962; Brams and Affuso 1976): for each total the sets that have it, modulo 2^32, which
-/// they don't reach. Sets without a chair of w votes are all sets of t votes, less those of t - w, plus those of t -
-/// 2w, and so on, so that a chair's swings are an alternating sum of sums over w totals each.
-fn by_table(words: &Words, quota: u64) -> (u64, Vec<u64>) {
-    let quota = quota as usize;
-    let open = words[..32].iter().filter(|&&word| word > 0);
-    let weights: Vec<usize> = open.map(|word| (word - 1) as usize).collect();
-    let mut sorted = weights.clone();
-    sorted.sort();
-    let (mut sets, mut next) = (vec![0u32; quota], vec![0u32; quota]);
-    sets[0] = 1;
-    let mut top = 1;
-    for weight in sorted {
-        let end = (top + weight).min(quota);
-        if weight < end {
-            next[..weight].copy_from_slice(&sets[..weight]);
-            let (without, with) = (&sets[weight..end], &sets[..end - weight]);
-            for ((next, a), b) in next[weight..end].iter_mut().zip(without).zip(with) {
-                *next = a.wrapping_add(*b);
-            }
-            top = end;
-            std::mem::swap(&mut sets, &mut next);
-        }
-    }
-    let mut below = vec![0u64; quota + 1];
-    for (place, &sets) in sets.iter().enumerate() {
-        below[place + 1] = below[place] + u64::from(sets);
-    }
-    let swings = |&weight: &usize| {
-        let (mut end, mut swings, mut adds) = (quota, 0u64, true);
-        while weight > 0 && end > 0 {
-            let start = end.saturating_sub(weight);
-            let part = below[end] - below[start];
-            swings = if adds { swings.wrapping_add(part) } else { swings.wrapping_sub(part) };
-            adds = !adds;
-            end = start;
-        }
-        swings
-    };
-    ((1 << weights.len()) - below[quota], weights.iter().map(swings).collect())
-}
-
-fn time_table(name: &str, words: &Words) {
-    let mut evaluator = Evaluator::new();
-    evaluator.set(words);
-    let indices = evaluator.evaluate(Majority::Half);
-    let mut nanos = u128::MAX;
-    for _ in 0..3 {
-        let start = Instant::now();
-        let (winning, swings) = by_table(words, indices.quota);
-        nanos = nanos.min(start.elapsed().as_nanos());
-        let same = swings.iter().eq(indices.rows.iter().map(|row| &row.swings));
-        assert!(same && winning == indices.winning, "the table and the walk differ");
-    }
-    println!("{name} table {nanos} 0");
-}
-
 fn print_counts(name: &str, words: &Words) {
     let mut evaluator = Evaluator::new();
     evaluator.set(words);
@@ -235,17 +174,13 @@ fn print_counts(name: &str, words: &Words) {
     println!();
 }
 
-/// Times the recounts of sheets of `chairs` chairs, numbered from 1: all new; with the left half of the first sheet;
-/// held; held, by the quorum; with one chair's votes changed, by all four majorities; and, for 24 chairs, in a sweep of
-/// one chair's votes.
+/// Times the recounts of sheets of `chairs` chairs, numbered from 1: all new; held; held, by the quorum; and with one
+/// chair's votes changed, by all four majorities.
 fn time_sheets(name: &str, chairs: usize, base: u64, span: u64) {
     let mut numbers = Numbers(0x9E37_79B9_7F4A_7C15);
     let sheets: Vec<Words> = (0..SHEETS).map(|turn| numbers.words(chairs, base + turn as u64, span)).collect();
-    let (mut halves, mut moved) = (sheets.clone(), sheets.clone());
-    let left = chairs.div_ceil(2);
-    for (turn, (half, moved)) in halves.iter_mut().zip(&mut moved).enumerate() {
-        half[..left].copy_from_slice(&sheets[0][..left]);
-        *half = totalled(*half);
+    let mut moved = sheets.clone();
+    for (turn, moved) in moved.iter_mut().enumerate() {
         moved[turn * 5 % chairs] += 1;
         *moved = totalled(*moved);
     }
@@ -253,26 +188,9 @@ fn time_sheets(name: &str, chairs: usize, base: u64, span: u64) {
     let print = |part: &str, (nanos, sum): (u128, u64)| println!("{name} {part} {nanos} {sum}");
     let half = [Majority::Half];
     print("full", least(&sheets, &half, |_| None));
-    print("half", least(&halves, &half, |_| None));
     print("none", least(&sheets, &half, |place| Some(sheets[place])));
     print("quorum", least(&sheets, &[Majority::Quorum], |place| Some(sheets[place])));
     print("one", least(&moved, &ALL, |place| Some(sheets[place])));
-    if chairs == 24 {
-        let value = |value| {
-            totalled(from_fn(|place| {
-                if place == 0 {
-                    1 + 400 * value
-                } else if place < 32 {
-                    sheets[0][place]
-                } else {
-                    0
-                }
-            }))
-        };
-        let sweep: Vec<Words> = (0..VALUES).map(value).collect();
-        print("sweep", least(&sweep, &half, |_| None));
-        time_table(name, &sheets[0]);
-    }
 }
 
 fn indices() {

@@ -9,19 +9,6 @@ BOARDS = {
     "votes25": "chairs 1 to 25, 5 million votes",
     "votes3": "3 chairs",
 }
-# The calls that bench/register.c times.
-CALLS = {
-    "replay": "`board_replay`, each record of the script",
-    "script": "`board_script`, the same records read as data",
-    "apply": "`board_register_apply`, the same commands",
-    "check": "`board_register_check`, the same",
-    "copy": "`board_register_copy`, each command of the journal",
-    "counts": "2,000 counts of 24 chairs, each",
-    "reforms": "2,000 commands with a count after each, and the start",
-    "start": "`board_register_start`",
-    "sheet": "`board_register_sheet`",
-    "member": "`board_register_member_at`",
-}
 
 
 def row(*cells: str) -> None:

@@ -181,6 +181,19 @@ class Module:
             made = Module(text_by(clang, [file.name, *WHOLE]))
         return made, made.functions[name]
 
+    def alone(self, name: str, clang: Path) -> list[str]:
+        """The instructions of a function, with its values in registers, and nothing of what it calls."""
+        own = self.functions[name].text
+        used = references(own) - {name}
+        called = [self.functions[it].text.partition("\n")[0] for it in used & set(self.functions)]
+        heads = [re.sub(r"^define (?:internal )?", "declare ", it.removesuffix(" {")) for it in called]
+        rest = [line for it, line in self._outside if not it or it in used]
+        with tempfile.NamedTemporaryFile("w", suffix=".ll") as file:
+            file.write("\n".join([*rest, *heads, own.replace("define internal", "define", 1), ""]))
+            file.flush()
+            made = Module(text_by(clang, [file.name, "-O1"]))
+        return [line.strip() for line in made.functions[name].text.split("\n")[1:] if line.startswith("  ")]
+
     @cached_property
     def _outside(self) -> list[tuple[str, str]]:
         """The lines outside of functions, each with what it declares, if anything."""

@@ -22,7 +22,20 @@ MEASURES = {
     "prevent": "power to prevent action",
     "initiate": "power to initiate action",
     "swings": "number of swings",
+    "ratio": "ratio of power to votes",
 }
+# The operations of scenarios, in board-study and in the page: changes of several members or of a whole chair, each
+# carried out as several commands. What each field is, in the order of the text.
+OPERATIONS = {
+    "merge": {"chair": "chair", "to": "chair"},
+    "dissolve": {"chair": "chair", "to": "seat"},
+    "split": {"codes": "codes", "to": "opened"},
+    "scale": {"of": "whose", "percent": "change"},
+    "share": {"codes": "codes", "percent": "share", "others": "others"},
+    "move": {"codes": "codes", "to": "seat"},
+}
+# Why a group gets no votes: several members without any have no proportions. One member alone needs none.
+NO_PROPORTIONS = "these members have no votes, so no proportions to keep"
 # The sentences on who has most and who gains most, by their names; what they speak of stands in {braces}.
 FINDINGS = {
     "none_wins": "{at} no coalition wins: the open chairs cast {cast} of {total} votes.",

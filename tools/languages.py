@@ -6,7 +6,7 @@ import re
 from collections.abc import Iterable, Mapping
 from string import Template
 
-from facts import COLUMNS, FINDINGS, MEASURES, TRAPPED, Facts, Majority, Refusal
+from facts import COLUMNS, FINDINGS, MEASURES, NO_PROPORTIONS, OPERATIONS, TRAPPED, Facts, Majority, Refusal
 
 MADE = "Made by tools/made from the sources: do not edit."
 TRAPPED_NUMBER = 255
@@ -114,6 +114,12 @@ $measures
 FINDINGS: dict[str, str] = {
 $findings
 }
+
+#: The operations of scenarios: what each field is, in the order of the text.
+OPERATIONS: dict[str, dict[str, str]] = {
+$operations
+}
+NO_PROPORTIONS = $no_proportions
 '''
 
 
@@ -134,6 +140,8 @@ def python(it: Facts) -> str:
         allowed=rows('    "{key}": {text},', it.said("None", "True", "False")),
         measures=rows('    "{key}": {text},', MEASURES),
         findings=rows('    "{key}": {text},', FINDINGS),
+        operations=(f"    {quoted(kind)}: {json.dumps(fields)}," for kind, fields in OPERATIONS.items()),
+        no_proportions=quoted(NO_PROPORTIONS),
     )
 
 
@@ -233,6 +241,12 @@ $measures
 export const FINDINGS = {
 $findings
 } as const;
+
+/** The operations of scenarios: what each field is, in the order of board-study's text. */
+export const OPERATIONS = {
+$operations
+} as const;
+export const NO_PROPORTIONS = $no_proportions;
 """
 
 
@@ -245,7 +259,14 @@ def page(it: Facts) -> str:
         sources=(f"  {json.dumps(source, ensure_ascii=False)}," for source in it.bibliography),
         measures=rows("  {key}: {text},", MEASURES),
         findings=rows("  {key}: {text},", FINDINGS),
+        operations=(f"  {kind}: {bare(fields)}," for kind, fields in OPERATIONS.items()),
+        no_proportions=quoted(NO_PROPORTIONS),
     )
+
+
+def bare(fields: dict[str, str]) -> str:
+    """An object of JavaScript, with names that need no quotes."""
+    return f"{{ {', '.join(f'{key}: {quoted(it)}' for key, it in fields.items())} }}"
 
 
 def page_majority(one: Majority) -> str:

@@ -21,8 +21,8 @@
  * several threads are independent if each has its own handle, room, counts and other places to
  * write to.
  *
- * The results of a call and what it writes are proved to be what this header says, except for
- * board_version and board_refusal_name; portable/board.c, the same calls in C, is made from what is
+ * The results of a call and what it writes are proved to be what this header says, except for the
+ * calls of names and texts at its end; portable/board.c, the same calls in C, is made from what is
  * proved in steps that are tested. That memory is freed, and that BOARD_OUT_OF_MEMORY comes
  * only where it is refused, is tested and not proved. Nothing checks the callers, who must ensure
  * the following:
@@ -37,11 +37,11 @@
  *   tested and not proved.)
  * - Each pointer is aligned as its type requires. Bytes between the parts of a struct have no
  *   meaning.
- * - What a call reads and what it writes do not overlap, and during the call no other thread
- *   reads or writes what it writes, or writes what it reads.
+ * - No two places that a call is given overlap, except two that it only reads, and during the call
+ *   no other thread reads or writes what it writes, or writes what it reads.
  * - The thread has 64 KB of stack for a count or a call on a register, and 256 KB for
  *   board_script, board_replay, board_replay_length, board_trace and board_trace_length. A
- *   board_room is 1.25 MiB, so it belongs in static memory or on the heap.
+ *   board_room is 1 MiB, so it belongs in static memory or on the heap.
  */
 #ifndef BOARD_H
 #define BOARD_H
@@ -62,7 +62,7 @@ enum {
     BOARD_INPUT_BYTES = 4194304
 };
 
-enum { BOARD_SHEET_WORDS = 34, BOARD_ROOM_SETS = 65536 };
+enum { BOARD_SHEET_WORDS = 34, BOARD_ROOM_SETS = 65536, BOARD_MAJORITIES = 4, BOARD_COMMAND_TEXT = 32 };
 
 /* A number that is aligned to 8 bytes in a struct, also where a uint64_t is aligned to 4. */
 #if defined(__GNUC__) && defined(__i386__)
@@ -79,7 +79,7 @@ enum {
     BOARD_COUNTS_BYTES = 824,
     BOARD_ALL_COUNTS_BYTES = 3296,
     BOARD_MEMBER_BYTES = 24,
-    BOARD_ROOM_BYTES = 1310720,
+    BOARD_ROOM_BYTES = 1048576,
     BOARD_REGISTER_BYTES = 16,
     BOARD_ENTRY_BYTES = 16,
     BOARD_COMMAND_BYTES = 24,
@@ -162,12 +162,10 @@ struct board_member {
     board_word suspended; /* 0 for a member that votes, any other number for a suspended one */
 };
 
-/* Memory for the lists of a call: 1,310,720 bytes, aligned to 8. */
+/* Memory for the lists of a call: 1,048,576 bytes, aligned to 8. */
 struct board_room {
-    board_word left_sums[BOARD_ROOM_SETS];
-    board_word right_sums[BOARD_ROOM_SETS];
-    uint16_t left_masks[BOARD_ROOM_SETS];
-    uint16_t right_masks[BOARD_ROOM_SETS];
+    board_word left[BOARD_ROOM_SETS];
+    board_word right[BOARD_ROOM_SETS];
 };
 
 /* The counts of a sheet by a majority. `words` are its 34 words: for each chair 0 if it is
@@ -279,7 +277,7 @@ uint8_t board_register_apply(struct board_register *handle, const struct board_c
 
 /* The result that board_register_apply would return, except BOARD_OUT_OF_MEMORY. Carries out
  * nothing. */
-uint8_t board_register_check(struct board_register *handle, const struct board_command *command);
+uint8_t board_register_check(const struct board_register *handle, const struct board_command *command);
 
 /* Publishes all accepted commands, and sets *published to their number. Refused as
  * BOARD_NO_REGISTER. */
@@ -287,34 +285,34 @@ uint8_t board_register_publish(struct board_register *handle, uint32_t *publishe
 
 /* The number of accepted commands; of published commands; of members; and of the members with
  * which the register started. Each is 0 for a handle without a register. */
-uint32_t board_register_accepted(struct board_register *handle);
-uint32_t board_register_published(struct board_register *handle);
-size_t board_register_members(struct board_register *handle);
-size_t board_register_entries(struct board_register *handle);
+uint32_t board_register_accepted(const struct board_register *handle);
+uint32_t board_register_published(const struct board_register *handle);
+size_t board_register_members(const struct board_register *handle);
+size_t board_register_entries(const struct board_register *handle);
 
 /* The member at an index, counted from 0 in the order of entry; the member at an index of those
  * with which the register started; and the accepted command at an index, with which
  * board_register_apply carries out the same command again. Refused as BOARD_NO_REGISTER, and as
  * BOARD_BAD_INDEX if there are at most `index` of them. */
-uint8_t board_register_member_at(struct board_register *handle, size_t index, struct board_member_row *row);
-uint8_t board_register_entry_at(struct board_register *handle, size_t index, struct board_entry *entry);
-uint8_t board_register_command_at(struct board_register *handle, size_t index, struct board_command *command);
+uint8_t board_register_member_at(const struct board_register *handle, size_t index, struct board_member_row *row);
+uint8_t board_register_entry_at(const struct board_register *handle, size_t index, struct board_entry *entry);
+uint8_t board_register_command_at(const struct board_register *handle, size_t index, struct board_command *command);
 
 /* Writes the 34 words of the register's sheet, which board_counts_of_sheet takes, to `words`.
  * Refused as BOARD_NO_REGISTER. */
-uint8_t board_register_sheet(struct board_register *handle, uint64_t *words);
+uint8_t board_register_sheet(const struct board_register *handle, uint64_t *words);
 
 /* The counts of the register's sheet by a majority, and by each of them, from lists that are built
  * once. Refused as BOARD_NO_REGISTER; otherwise the first as BOARD_BAD_RECORD, if no majority has
  * this number. */
-uint8_t board_register_counts(struct board_register *handle, uint32_t majority, struct board_room *room,
+uint8_t board_register_counts(const struct board_register *handle, uint32_t majority, struct board_room *room,
                               struct board_counts *counts);
-uint8_t board_register_all_counts(struct board_register *handle, struct board_room *room,
+uint8_t board_register_all_counts(const struct board_register *handle, struct board_room *room,
                                   struct board_all_counts *counts);
 
 /* The counts of the sheet after the published commands, which is what a reader sees: before the
  * first board_register_publish that of the opening. Refused as board_register_counts. */
-uint8_t board_register_read(struct board_register *handle, uint32_t majority, struct board_room *room,
+uint8_t board_register_read(const struct board_register *handle, uint32_t majority, struct board_room *room,
                             struct board_counts *counts);
 
 /* Puts a copy of the register as it was after its first `accepted` commands into another handle;
@@ -325,7 +323,12 @@ uint8_t board_register_read(struct board_register *handle, uint32_t majority, st
  *
  * Refused as BOARD_NO_REGISTER, or as BOARD_OUT_OF_MEMORY: *copy then has the register that it had
  * before, if it had one. */
-uint8_t board_register_copy(struct board_register *handle, uint32_t accepted, struct board_register *copy);
+uint8_t board_register_copy(const struct board_register *handle, uint32_t accepted, struct board_register *copy);
+
+/* Takes the register back, in place, to what it was after its first `accepted` commands; if it has
+ * accepted no more, nothing is taken back. Those of its commands that are published stay published,
+ * but no more than the first `published`. Needs no memory. Refused as BOARD_NO_REGISTER. */
+uint8_t board_register_undo(struct board_register *handle, uint32_t accepted, uint32_t published);
 
 /* Frees the register of a handle, which then has none. */
 void board_register_free(struct board_register *handle);
@@ -415,14 +418,34 @@ uint8_t board_trace(const uint8_t *input, size_t len, uint32_t readers, uint32_t
 uint8_t board_trace_length(const uint8_t *input, size_t len, uint32_t readers, uint32_t journal, uint64_t *length,
                            uint32_t *record);
 
-/* The version of the library, which is that of the program. This call and the next one are not
- * proved: they read a table, which is tested. The strings that they return are static and must
- * not be freed. */
+/* Names and texts. None of the calls below is proved; they are tested. The strings that they return
+ * are static and must not be freed. */
+
+/* The version of the library, which is that of the program. */
 const char *board_version(void);
 
 /* The name of a refusal or a fault by its number, such as "BadSheet" for 32: the names of
  * docs/FORMATS.md. It is "" for 0 and for every other number without a name. */
 const char *board_refusal_name(uint32_t number);
+
+/* The name of a majority, as records and readings have it: "half", "70", "85" or "quorum". It is
+ * "" for a number of no majority. */
+const char *board_majority_name(uint32_t majority);
+
+/* The number of the majority with this name, or BOARD_MAJORITIES, which is the number of none. */
+uint32_t board_majority_number(const char *name);
+
+/* Writes a command as a record of a script, such as "move,AAA,3", and a 0 after it, to `text`,
+ * which has room for BOARD_COMMAND_TEXT bytes. Returns the length of the record, without the 0. For
+ * a kind of no command the record is empty. Parts that are out of range are written as they are. */
+size_t board_command_text(const struct board_command *command, char *text);
+
+/* Writes a register as a script, which board_script and `board replay` read: the members with which
+ * it started, its accepted commands, and a publication after those that are published, if there are
+ * any. Writes the first `out_len` bytes of the script to `out`, without a 0, and returns the length
+ * of the whole script: a call with room for 0 bytes measures it. A handle without a register has no
+ * script, and the call returns 0. The limit of the journal isn't in the script. */
+size_t board_register_text(const struct board_register *handle, char *out, size_t out_len);
 
 #ifdef __cplusplus
 }

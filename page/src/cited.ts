@@ -57,6 +57,7 @@ export const MEASURE_NAMES = {
   prevent: "power to prevent action",
   initiate: "power to initiate action",
   swings: "number of swings",
+  ratio: "ratio of power to votes",
 } as const;
 
 /** The sentences on who has most and who gains most; what they speak of stands in braces. */
@@ -78,3 +79,14 @@ export const FINDINGS = {
   tiny: "less than {change}",
   points: "{change} percentage points",
 } as const;
+
+/** The operations of scenarios: what each field is, in the order of board-study's text. */
+export const OPERATIONS = {
+  merge: { chair: "chair", to: "chair" },
+  dissolve: { chair: "chair", to: "seat" },
+  split: { codes: "codes", to: "opened" },
+  scale: { of: "whose", percent: "change" },
+  share: { codes: "codes", percent: "share", others: "others" },
+  move: { codes: "codes", to: "seat" },
+} as const;
+export const NO_PROPORTIONS = "these members have no votes, so no proportions to keep";

@@ -5,8 +5,12 @@ export { isStrict, strictTable } from "../src/tables/strict";
 export { sheetOf } from "../src/tables/text";
 export { textOfBytes } from "../src/tables/bytes";
 export { bare } from "../src/tables/html";
+export { contentsOf } from "../src/tables/sources";
+export { default as Zip } from "jszip";
+export { partsOfXlsx } from "../src/tables/unzip";
 export { gridOf } from "../src/tables/grid";
-export { CellCount, checkSize, checkTags, countUpTo, MOST_CELLS, MOST_FILE, MOST_LINES, MOST_TAGS } from
-  "../src/tables/limits";
+export {
+  CellCount, checkSize, checkTags, countUpTo, MOST_CELLS, MOST_FILE, MOST_LINES, MOST_PART, MOST_TAGS,
+} from "../src/tables/limits";
 export { withoutMarks } from "../src/tables/numbers";
 export { madeCodes } from "../src/tables/codes";

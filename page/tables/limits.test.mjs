@@ -3,7 +3,23 @@ import assert from "node:assert/strict";
 import { test } from "node:test";
 
 const reader = await import(process.env.READER);
-const { bare, checkSize, checkTags, countUpTo, gridOf, sheetOf, textOfBytes, withoutMarks } = reader;
+const { bare, checkSize, checkTags, contentsOf, countUpTo, gridOf, partsOfXlsx, sheetOf, textOfBytes, withoutMarks } =
+  reader;
+
+const REL = '<Relationship Id="r1" Target="worksheets/sheet1.xml"/><Relationship Id="r2" Target="worksheets/two.xml"/>';
+
+/** The parts of a workbook with two sheets. */
+function workbook(one, two, more = {}) {
+  return {
+    "xl/workbook.xml": '<workbook><sheet name="One" r:id="r1"/><sheet name="Two" r:id="r2"/></workbook>',
+    "xl/_rels/workbook.xml.rels": `<x:Relationships>${REL}</x:Relationships>`,
+    "xl/worksheets/sheet1.xml": one,
+    "xl/worksheets/two.xml": two,
+    ...more,
+  };
+}
+const row = (...cells) => `<row>${cells.map((it) => `<c t="str"><v>${it}</v></c>`).join("")}</row>`;
+const GOOD = `<sheetData>${row("Name", "Votes")}${row("Alland &amp; Co", "5")}</sheetData>`;
 
 test("counts stop at their limits", () => {
   // Catches: a file that is read to its end before it is refused.
@@ -55,4 +71,76 @@ test("marks are looked for at the end of a cell alone", () => {
   assert.equal(withoutMarks(`China${" ".repeat(300)}3/`), "China");
   const long = `${"*".repeat(100_000)}x`;
   assert.equal(withoutMarks(long), long);
+});
+
+test("workbooks of an attacker are refused by what was read of them", () => {
+  // Catches: a tree that is made of a part before its tags are counted, cells that are kept beyond the limits, entities
+  // that unpack to very much, and a sheet that is read no more since another one is too large.
+  const found = (one, more) => {
+    const [sheet, ...others] = contentsOf({ parts: workbook(one, GOOD, more) }).sheets;
+    assert.deepEqual([others.length, sheet.name], [0, "Two"]);
+    assert.deepEqual(sheet.sheet.rows, [["Name", "Votes"], ["Alland & Co", "5"]]);
+    return sheet.sheet.notices.join();
+  };
+  assert.match(found(`<row>${"<c/>".repeat(2_000_000)}</row>`), /'One' wasn't read. .* more than 400,000 tags/);
+  assert.match(found(`<row>${"<c/>".repeat(300_000)}</row>`), /wasn't read. .* more than 5000 rows or 200 columns/);
+  assert.match(found(`<row>${"<c/>".repeat(150)}</row>`.repeat(1000)), /'One' wasn't read. .* more than 100,000 cells/);
+  assert.match(found("<x>".repeat(300_000)), /'One' wasn't read. This workbook is damaged/);
+  assert.match(found(`<row>${"<c ".repeat(300_000)}`), /'One' wasn't read. This workbook is damaged/);
+  assert.match(found('<!DOCTYPE x [<!ENTITY a "b">]><row/>'), /damaged: it defines entities/);
+  assert.match(found(null), /'One' wasn't read. This workbook is too large/);
+  const merged = `${GOOD}<mergeCell ref="A1:A5000"/>`.repeat(2);
+  assert.equal(contentsOf({ parts: workbook(merged, "<row/>") }).sheets.length, 1);
+});
+
+test("rows that are struck out in a workbook are asked about", () => {
+  // Catches: a member that a table strikes out and that counts, and one of which a single cell is struck.
+  const styles = `<fonts><font/><font><strike/></font><font><strike val="0"/></font></fonts>
+    <cellXfs><xf fontId="0"/><xf fontId="1"/><xf fontId="2"/></cellXfs>`;
+  const styled = (style, ...cells) => row(...cells).replace(/<c /g, `<c s="${style}" `);
+  const mixed = row("Elland", "9", "1").replace("<c ", '<c s="1" ');
+  const rows = [row("Name", "Votes", "Chair"), row("Alland", "1", "1"), styled(1, "Belland", "2", "1"),
+    styled(2, "Delland", "5", "1"), mixed];
+  const parts = workbook(rows.join(""), "<row/>", { "xl/styles.xml": `<styleSheet>${styles}</styleSheet>` });
+  const { sheets: [{ sheet }] } = contentsOf({ parts });
+  const read = (chosen) => reader.readTable(sheet, reader.guessedLayout(sheet), { chosen, leftOut: new Set() });
+  const open = read(new Map());
+  assert.deepEqual(open.questions.map(({ words }) => words), ["Struck out: row 3. Do they count?"]);
+  const votes = (answer) => read(new Map([["struck", answer]])).base.members.map((it) => it.votes);
+  assert.deepEqual([votes("no"), votes("yes")], [[1, 5, 9], [1, 2, 5, 9]]);
+});
+
+test("a workbook is unpacked up to a limit", async () => {
+  // Catches: a bomb of which all bytes are unpacked, and a sheet behind it that is lost.
+  const zip = new reader.Zip();
+  for (const [name, text] of Object.entries(workbook(" ".repeat(5 * reader.MOST_PART), GOOD))) zip.file(name, text);
+  const parts = await partsOfXlsx(await zip.generateAsync({ type: "arraybuffer", compression: "DEFLATE" }));
+  assert.equal(parts["xl/worksheets/sheet1.xml"], null);
+  assert.deepEqual(contentsOf({ parts }).sheets.map(({ name }) => name), ["Two"]);
+  const other = await new reader.Zip().file("a", "b").generateAsync({ type: "arraybuffer" });
+  await assert.rejects(partsOfXlsx(other), /zip file without a workbook/);
+});
+
+test("files of other kinds, and pages that browsers take long to read", () => {
+  // Catches: tables in one another in which a browser looks for rows again and again; a study in a page that is read as
+  // HTML; a script or a study that is read as a table.
+  const deep = "<table><tr><td>".repeat(21);
+  assert.throws(() => contentsOf({ text: `<html>${deep}` }), /more than 20 tables in one another/);
+  assert.equal(contentsOf({ text: `<html>${"<table><tr><td>1</table>".repeat(100)}` }).kind, "page");
+  assert.throws(() => contentsOf({ text: `<html>${"<td>".repeat(400_001)}` }), /more than 400,000 tags/);
+  const page = `<!DOCTYPE html><script type="application/json" id="study-data">{"a": 1}</script>${deep}`;
+  assert.deepEqual(contentsOf({ text: page }), { kind: "study", json: '{"a": 1}' });
+  assert.equal(contentsOf({ text: '{"format": "board study 2"}' }).kind, "study");
+  assert.equal(contentsOf({ text: "member,votes\nAAA,1\nscript\n" }).kind, "script");
+  const quotes = `member,votes\n${'"'.repeat(100_001)}`;
+  assert.throws(() => contentsOf({ text: quotes }), /a quoted cell isn't closed/);
+});
+
+test("a number or a chair in a cell with very many blanks", () => {
+  // Catches: a pattern whose steps grow with the square of a cell's blanks.
+  const cells = ["1", "%", "(continued)", "[1]", "*"].map((it) => `${" ".repeat(200_000)}${it}${" ".repeat(200_000)}x`);
+  const text = `Name,Votes,Chair\n${cells.map((it) => `A${it},5${it},C${it}`).join("\n")}\n`;
+  const { sheets: [{ sheet }] } = contentsOf({ text });
+  const found = reader.readTable(sheet, reader.guessedLayout(sheet), { chosen: new Map(), leftOut: new Set() });
+  assert.equal(found.base, null);
 });

@@ -8,7 +8,8 @@ from random import Random
 
 from member_tables import register_of
 from oracle import Oracle
-from voting_board.amounts import BadStudy, records_of
+from voting_board.amounts import BadStudy
+from voting_board.operations import records_of
 
 # A word of acts.js, and its arguments: the fields of a command, or a place in the list of changes.
 Act = list[str]

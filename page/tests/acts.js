@@ -27,8 +27,8 @@ function opened(code) {
 
 /** Writes into a field of a menu and presses its button; if the field doesn't offer that, it closes the menu. */
 function taken(field, text, button) {
-  fill(at(field), text);
-  const isOffered = at(field).value === text && at(field).checkValidity();
+  if (at(field)) fill(at(field), text);
+  const isOffered = at(field)?.value === text && at(field).checkValidity();
   return press(isOffered ? at(button) : document.querySelector("dialog .close")) && isOffered;
 }
 
@@ -68,7 +68,10 @@ async function exported(id) {
 }
 
 const acts = {
-  move: (code, place) => opened(code) && taken("move-to", place, "move-take"),
+  move: (who, place) => {
+    if (who.includes("+")) return ticked(who) && taken("group-join-to", place, "group-join-take");
+    return opened(who) && taken("move-to", place, "move-take");
+  },
   votes: (code, text) => {
     const field = text.endsWith("%") ? (/^[+-]/.test(text) ? "votes-own" : "votes-total") : "votes-number";
     return opened(code) && taken(field, text.replace("%", ""), `${field}-take`);
@@ -87,6 +90,11 @@ const acts = {
   scale: (who, percent) => {
     const [isOpen, id] = /[A-Z]/.test(who) ? [ticked(who), "group"] : [operated("scale", who), "scale"];
     return isOpen && taken(`${id}-percent`, percent.replace("%", ""), `${id}-percent-take`);
+  },
+  share: (codes, percent, others) => {
+    if (!ticked(codes)) return false;
+    fill(at("group-others"), others);
+    return taken("group-share", percent, "group-share-take");
   },
   open: () => press(at("open-new")),
   close: (chair) => operated("close", chair),

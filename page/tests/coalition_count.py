@@ -87,6 +87,13 @@ class Board:
             many[len(coalition)] += self.wins(majority, coalition)
         return [(comb(len(self.votes), size), winning) for size, winning in enumerate(many)]
 
+    def blocking_by_size(self, majority: str) -> list[int]:
+        """For each size how many coalitions can block: the other chairs together lose."""
+        many = [0] * (len(self.votes) + 1)
+        for coalition in self.coalitions():
+            many[len(coalition)] += not self.wins(majority, set(self.votes) - set(coalition))
+        return many
+
 
 def counted(many: int, thing: str) -> str:
     return f"{many:,} {thing}{'' if many == 1 else 's'}"

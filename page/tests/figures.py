@@ -67,7 +67,11 @@ def shown_majorities(page: Page) -> list[str]:
     return [it for it in MAJORITIES if page.at(f"#at-{it}").get_attribute("aria-pressed") == "true"]
 
 
-def measure_of(chair: Chair, measure: str) -> Ratio | None:
+def measure_of(chair: Chair, measure: str, cast: int = 0) -> Ratio | None:
+    if measure == "ratio":
+        if chair.share is None or not chair.weight:
+            return None
+        return Ratio(*(exact(chair.share) * cast / chair.weight).as_integer_ratio())
     return Ratio(chair.swings, 1) if measure == "swings" else getattr(chair, measure)
 
 
@@ -88,7 +92,7 @@ def check_figures(page: Page, oracle: Oracle, commands: list[str], measure: str 
     for which, some in enumerate((list[str](), commands)):
         for at, reading in enumerate(oracle.output(some, majorities).readings):
             found = {chair: of[BEFORE + EACH * at + which][1] for chair, of in cells.items()}
-            wanted = {it.chair: fraction_text(measure_of(it, measure), measure) for it in reading.chairs}
+            wanted = {it.chair: fraction_text(measure_of(it, measure, reading.cast), measure) for it in reading.chairs}
             assert {chair: it for chair, it in found.items() if it} == wanted, (reading.majority, some)
             votes = {chair: of[1 + which][1] for chair, of in cells.items() if of[1 + which][1]}
             assert votes == {it.chair: str(it.weight) for it in reading.chairs}

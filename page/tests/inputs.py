@@ -161,7 +161,7 @@ READ: dict[str, tuple[str, list[str], str, str, list[str]]] = {
     "members in no chair": (
         MERGED,
         ["#merged-no"],
-        "5 members, 100 votes; 3 chairs; 2 members in no chair: CCC (15 votes), EEE (8 votes)",
+        "5 members, 100 votes; 3 chairs; 2 members in no chair: CCC Celland (15 votes), EEE Elland (8 votes)",
         "AAA,40 BBB,25 CCC,15 DDD,12 EEE,8 script open,1 open,2 open,3 move,AAA,1 move,BBB,2 move,DDD,3",
         ["A blank chair under a filled one is no chair: 2 rows"],
     ),

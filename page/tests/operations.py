@@ -1,4 +1,4 @@
-"""Operations on chairs, worked out here without the page: the commands that each must stand for."""
+"""Operations, worked out here without the page: the commands that each must stand for."""
 from __future__ import annotations
 
 from contextlib import suppress
@@ -9,10 +9,12 @@ from actions import Act, Change, Model, drawn_act, spelled
 from member_tables import MOST_VOTES, register_of
 from oracle import Oracle
 from voting_board import Register
-from voting_board.amounts import BadStudy, records_of
+from voting_board.amounts import BadStudy
+from voting_board.operations import records_of
 
 MOST_CHAIRS = 32
-WORDS = ["merge", "dissolve", "split", "scale"]
+OTHERS = ["pay", "keep"]
+WORDS = ["merge", "dissolve", "split", "scale", "share"]
 
 
 def seated(register: Register, chair: int) -> list[str]:
@@ -30,9 +32,51 @@ def codes_of(register: Register, who: str) -> list[str]:
     return seated(register, int(who)) if who.isdigit() else who.split("+")
 
 
+def shared_out(votes: int, weights: dict[str, int]) -> dict[str, int]:
+    """Votes in the proportions of weights: the greatest remainders are rounded up. One weight alone gets all."""
+    whole = sum(weights.values())
+    exact = {code: Fraction(votes * it, whole) if whole else Fraction(votes) for code, it in weights.items()}
+    parts = {code: int(it) for code, it in exact.items()}
+    for code in sorted(exact, key=lambda it: parts[it] - exact[it])[: votes - sum(parts.values())]:
+        parts[code] += 1
+    return parts
+
+
+def share_of(register: Register, codes: list[str], percent: str, others: str) -> dict[str, int]:
+    """The votes of all members that a share changes; none if it can't be given."""
+    votes = {code: it.votes for code, it in register.members.items() if not it.suspended}
+    own, rest = ({it: votes[it] for it in votes if (it in codes) == is_own} for is_own in (True, False))
+    total, asked = sum(votes.values()), Fraction(percent)
+    has_votes = all(any(it.values()) or len(it) == 1 for it in (own, rest))
+    if not set(codes) <= set(votes) or not has_votes or not total:
+        return {}
+    if percent[0] in "+-":
+        asked += Fraction(100 * sum(own.values()), total)
+    if not 0 <= asked < 100 or (others == "keep" and not any(rest.values())):
+        return {}
+    if others == "keep":
+        return shared_out(round(asked / (100 - asked) * sum(rest.values())), own)
+    many = round(asked * total / 100)
+    return {**shared_out(many, own), **shared_out(total - many, rest)}
+
+
+def is_operation(command: str) -> bool:
+    """Whether a change is an operation: a move of several members is one."""
+    word, *fields = command.split(",")
+    return word in WORDS or (word == "move" and "+" in fields[0])
+
+
 def commands_of(register: Register, operation: str) -> list[str]:
     """The commands of an operation on a register; none if it can't be carried out."""
-    word, first, second = operation.split(",")
+    word, first, second, *others = operation.split(",")
+    if word == "share":
+        found = share_of(register, first.split("+"), second, others[0])
+        is_right = all(it <= MOST_VOTES for it in found.values())
+        return [f"votes,{code},{it}" for code, it in found.items() if it != register.members[code].votes] * is_right
+    if word == "move":
+        to = None if second == "none" else int(second)
+        places = register.members
+        return [f"move,{it},{second}" for it in first.split("+") if it not in places or places[it].chair != to]
     if word in ("merge", "dissolve"):
         return [*(f"move,{code},{second}" for code in seated(register, int(first))), f"close,{first}"]
     if word == "split":
@@ -71,7 +115,7 @@ class Walk(Model):
 
 def added_by(register: Register, change: Change) -> tuple[list[str], bool]:
     """The commands of a change, and whether it is an operation."""
-    if change.command.split(",")[0] in WORDS:
+    if is_operation(change.command):
         return commands_of(register, change.command), True
     with suppress(BadStudy):
         return records_of(register.members, spelled(change.command)), False
@@ -92,6 +136,8 @@ def drawn_operation(some: Random, register: Register) -> Act:
         ["split", "lowest", "+".join(seated(register, chair)[:3] or codes)],
         ["scale", str(chair), percent],
         ["scale", "+".join(codes), percent],
+        ["share", "+".join(codes), some.choice(["20", "7.5", "0.125", "+6", "+0.5", "-1.25"]), some.choice(OTHERS)],
+        ["move", "+".join(codes), some.choice(["none", str(other)])],
     ]
     return some.choice(drawn)
 

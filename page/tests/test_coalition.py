@@ -173,27 +173,33 @@ def share_text(winning: int, many: int) -> str:
 
 
 def test_sizes(small: Page) -> None:
-    # Catches: a size that is one off, a share of another size's coalitions, a readout that isn't the table's.
+    # Catches: a size that is one off, a share of another size's coalitions, a readout that isn't the table's, and
+    # blocking coalitions that are those of their own size that lose.
     columns = [BOARD.by_size(it) for it in MAJORITIES]
-    every = [[str(size), str(many), *row(columns, size)] for size, (many, _) in enumerate(columns[0])]
+    blocking = [BOARD.blocking_by_size(it) for it in MAJORITIES]
+    every = [[str(size), str(many), *row(columns, blocking, size)] for size, (many, _) in enumerate(columns[0])]
     found = sizes(small)
     assert found[:-2] == every
-    sums = [text for column in columns for text in (str(sum(winning for _, winning in column)), "")]
+    totals = [(sum(winning for _, winning in column), sum(many)) for column, many in zip(columns, blocking)]
+    sums = [text for wins, blocks in totals for text in (str(wins), "", str(blocks))]
     assert found[-2:] == [["Sum", "128", *sums], ["All", "128", *sums]]
     small.at("#panel .chart").click()
     small.press(Keys.ARROW_UP * 9)
     for size, (many, _) in enumerate(columns[0]):
-        shares = [f"{column[size][1]}, {share_text(column[size][1], many)} (made here)" for column in columns]
+        shares = [
+            f"{column[size][1]} win, {share_text(column[size][1], many)}; {blocks[size]} can block (made here)"
+            for column, blocks in zip(columns, blocking)
+        ]
         head, *lines = small.text("#readout").splitlines()
-        assert head == f"{counted(size, 'chair')}: {counted(many, 'coalition')}, of which win"
+        assert head == f"{counted(size, 'chair')}: {counted(many, 'coalition')}"
         assert [it.split(": ")[1] for it in lines] == shares
         small.press(Keys.ARROW_RIGHT)
 
 
-def row(columns: list[list[tuple[int, int]]], size: int) -> list[str]:
-    """The cells of a size: for each majority the winning coalitions, and their share."""
-    pairs = [column[size] for column in columns]
-    return [text for many, winning in pairs for text in (str(winning), share_text(winning, many))]
+def row(columns: list[list[tuple[int, int]]], blocking: list[list[int]], size: int) -> list[str]:
+    """The cells of a size: for each majority the winning coalitions, their share, and those that can block."""
+    found = [(*column[size], blocks[size]) for column, blocks in zip(columns, blocking)]
+    return [text for many, wins, blocks in found for text in (str(wins), share_text(wins, many), str(blocks))]
 
 
 def test_vetoes(small: Page) -> None:
@@ -261,7 +267,7 @@ def test_example(page: Page, oracle: Oracle) -> None:
     # Catches: 24 chairs that aren't counted as the program counts them.
     show_all(page)
     readings, board = oracle.output([], MAJORITIES).readings, example(oracle)
-    found = [[int(it.replace(",", "")) for it in cells[2::2] if it] for cells in sizes(page)]
+    found = [[int(it.replace(",", "")) for it in cells[2::3] if it] for cells in sizes(page)]
     assert found[-1] == found[-2] == [it.winning for it in readings]
     columns = [large_by_size(board, it) for it in MAJORITIES]
     assert found[:-2] == [list(it) for it in zip(*columns)]
@@ -284,7 +290,7 @@ def test_marks(small: Page) -> None:
     assert set(parts.values()) == {"counted", "made here"}
     for table in ["#smallest-table", "#smallest-list"]:
         assert set(small.run(marks, f"{table} thead th")) == {"made here"}
-    assert small.run(marks, "#size-table thead th") == ["", *["made here"] * (1 + 2 * len(MAJORITIES))]
+    assert small.run(marks, "#size-table thead th") == ["", *["made here"] * (1 + 3 * len(MAJORITIES))]
     assert small.run(marks, "#size-table tfoot th") == ["made here", "counted"]
 
 

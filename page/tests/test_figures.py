@@ -24,7 +24,7 @@ from replay_output import Ratio
 from rounding import exact, rounded
 
 COMMANDS = ["votes,XAD,318104", "move,XAA,2"]
-MEASURES = ["share", "banzhaf", "prevent", "initiate", "swings"]
+MEASURES = ["share", "banzhaf", "prevent", "initiate", "swings", "ratio"]
 # A number of a row in words, as a decimal and as a fraction; some units are hundredths.
 EQUATION = re.compile(r": ([+-]?[0-9,]+)(\.\d+)?( %| points)? = (-?\d+(?:/\d+)?) \(.+\)")
 
@@ -92,7 +92,7 @@ def test_sentence(changed: Page, oracle: Oracle) -> None:
     assert wanted in changed.texts("#sentences p")
 
 
-@pytest.mark.parametrize("measure", [it for it in MEASURES if it != "swings"])
+@pytest.mark.parametrize("measure", [it for it in MEASURES if it not in ("swings", "ratio")])
 def test_one_wording(page: Page, oracle: Oracle, measure: str) -> None:
     # Catches: a finding that the page and board-study say in other words.
     for majority in UNSHOWN:

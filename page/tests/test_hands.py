@@ -88,7 +88,7 @@ def test_escape_leaves_a_drag(page: Page) -> None:
     mouse(page).send_keys(Keys.ESCAPE).perform()
     assert not page.all(".ghost") and not page.all(".card.aimed")
     mouse(page).release().perform()
-    says(page, "XAA stays where it was.")
+    says(page, "XAA Marenia stays where it was.")
     mouse(page).click_and_hold(page.at("#chip-XAA")).move_by_offset(9, 0).send_keys(Keys.ESCAPE).release().perform()
     assert not page.all("dialog") and not page.all("#changes > li")
     page.click("#chip-XAA")
@@ -224,7 +224,7 @@ def test_touch_that_is_taken_away(page: Page, finger: Finger) -> None:
     time.sleep(HELD)
     finger.glide(start, middle(page, head("2")))
     finger.send("touchCancel")
-    says(page, "XAA stays where it was.")
+    says(page, "XAA Marenia stays where it was.")
     assert not page.all(".ghost") and not page.all(".card.aimed") and not page.all("#changes > li")
 
 

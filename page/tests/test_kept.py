@@ -16,7 +16,8 @@ from test_exports import DROP
 from test_random import TEXTS, table_of
 from test_said import HEAD, opened
 from test_studies import ask
-from voting_board.amounts import BadStudy, records_of
+from voting_board.amounts import BadStudy
+from voting_board.operations import records_of
 
 BROWSERS = EVERY
 SEED, PARTS, SCRIPTS = 20_260_103, 4, 10

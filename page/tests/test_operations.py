@@ -2,23 +2,20 @@
 none, and the page's figures are those that the program prints for these commands."""
 from __future__ import annotations
 
-import random
 from pathlib import Path
 
 import pytest
 from chromium import Page
 from figures import check_figures, shown_majorities
 from member_tables import register_of
-from operations import Walk, commands_of, drawn
+from operations import Walk, commands_of
 from oracle import Oracle
 from selenium.webdriver.common.keys import Keys
 from test_hands import Finger, changes, finger, focus, live, middle, says
 from test_random import TEXTS, table_of
-from tests.shared.commands import Say
 
-SEED, ACTS, EACH = 20_260_105, 100, 4
-# The fewest numbers that are compared, of one list of changes and in the walk.
-FEWEST, LEAST_COMPARED = 180, 800
+# The fewest numbers that are compared of one list of changes.
+FEWEST = 180
 MOST_STOPS = 400
 __all__ = ["finger"]
 
@@ -47,8 +44,10 @@ def check(page: Page, oracle: Oracle, commands: list[str]) -> int:
     accepted = [command for command, line in zip(commands, oracle.answers(commands)) if line.startswith("accepted")]
     wanted = oracle.study({"changed": accepted} if commands else {}, shown_majorities(page))
     opened = {it.removeprefix("open,") for it in accepted if it.startswith("open,")}
-    assert bare(page.act("exported", "export-csv"), opened) == bare(wanted, opened)
-    return check_figures(page, oracle, commands)
+    rows = bare(page.act("exported", "export-csv"), opened)
+    assert rows == bare(wanted, opened)
+    many = sum(text.lstrip("+-").replace(".", "").isdigit() for row in rows for text in row.values())
+    return many + check_figures(page, oracle, commands)
 
 
 def expected(oracle: Oracle, *operations: str) -> list[str]:
@@ -332,23 +331,3 @@ def test_operations_are_kept(page: Page, oracle: Oracle, tmp_path: Path) -> None
 
 def seats(oracle: Oracle, chair: int) -> list[str]:
     return [it.code for it in oracle.table.members if it.chair == chair]
-
-
-# Any operations.
-
-
-def test_a_random_walk(page: Page, oracle: Oracle, record_property: Say) -> None:
-    # Catches: any sequence of operations and changes after which the page shows other numbers than its script gives.
-    some, walk, compared, taken = random.Random(SEED), Walk(), 0, 0
-    page.show(height=200)
-    page.click("#tab-table")
-    while taken < ACTS:
-        act = drawn(some, walk, oracle)
-        if not page.act(*act):
-            continue
-        walk.take(act)
-        taken += 1
-        if taken % EACH == 0:
-            compared += check(page, oracle, walk.expanded(oracle)[0])
-    record_property("time", f"operations: {compared} numbers of a walk of {ACTS} acts were compared with the program")
-    assert compared >= LEAST_COMPARED

@@ -16,7 +16,7 @@ from selenium.webdriver.common.action_chains import ActionChains
 from test_exports import DROP
 from test_random import table_of
 from test_tables import take
-from voting_board.amounts import records_of
+from voting_board.operations import records_of
 
 CELLS = """return [...document.querySelectorAll("#sweep-table tbody tr")].map(
   (row) => [...row.children].map((it) => it.title.split(" ")[0] || it.textContent));"""

@@ -84,10 +84,42 @@ def open_file(page: Page, file: Path, content: bytes, dialog: str = "#table-dial
 
 
 def take(page: Page, name: str = "Pasted table") -> None:
-    """Takes the table of the preview, once all is answered."""
+    """Takes the table of the preview, once all is answered. A file is read beside the page."""
+    page.until(lambda: page.all("#table-take"), "the preview")
     page.at("#table-take").click()
     page.until(lambda: page.text("#study-name") == name, "the study")
     page.settle()
+
+
+# Keeps orders to read a file from the workers, so that reading one takes forever.
+NEVER_READ = """const post = Worker.prototype.postMessage;
+  Worker.prototype.postMessage = function (message, ...more) {
+    if (message.kind !== "read" || !window.neverRead) post.call(this, message, ...more);
+  };
+  window.neverRead = true;"""
+
+
+def test_reading_is_cancelled(page: Page, tmp_path: Path) -> None:
+    # Catches: a file that can't be stopped while it is read, or that takes the study on the page with it; a text that
+    # is read by the page itself, whatever its length.
+    page.act("votes", "XAA", "5")
+    page.run(NEVER_READ)
+    file = tmp_path / "long.csv"
+    file.write_text("Code,Votes,Chair\nAAA,5,1\nBBB,6,2\n")
+    page.at("#file").send_keys(str(file))
+    page.until(lambda: page.all("#waiting-cancel"), "the progress")
+    assert page.text("#waiting").startswith("The table is being read.")
+    page.click("#waiting-cancel")
+    page.until(lambda: not page.all("#waiting"), "the end")
+    assert not page.all("dialog") and len(page.all("#changes > li")) == 1
+    page.click("#paste")
+    page.run("document.getElementById('paste-text').value = `Code,Votes,Chair\\n${'AAA,5,1\\n'.repeat(10_000)}`;")
+    page.click("#paste-take")
+    page.until(lambda: page.all("#waiting-cancel"), "the progress of a long text")
+    page.click("#waiting-cancel")
+    page.run("window.neverRead = false;")
+    page.at("#file").send_keys(str(file))
+    page.until(lambda: page.all("#table-dialog"), "the table")
 
 
 def records(page: Page) -> list[str]:

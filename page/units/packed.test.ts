@@ -11,6 +11,8 @@ test("readings as numbers, and back", () => {
     chair: number, weight: 2 ** 48, swings: number, banzhaf: large, share: isEmpty ? null : large,
     prevent: isEmpty ? null : { numerator: 0n, denominator: 1n },
     initiate: { numerator: BigInt(number), denominator: 7n },
+    // Of 12 votes cast.
+    ratio: isEmpty ? null : { numerator: 3n * (2n ** 48n - 1n), denominator: (2n ** 53n - 1n) * 2n ** 46n },
   });
   const one: Reading = {
     majority: "85", quota: 11, leastSize: 1, cast: 12, total: 13, winning: 0, coalitions: 2 ** 32, act: null,

@@ -27,8 +27,19 @@ struct option {
     uint32_t most, number;
 };
 
+/* Writes a word to standard error. No terminal obeys it: a byte of a control character is written as its number. */
+static void complain(const char *word) {
+    for (const unsigned char *at = (const unsigned char *)word; *at; at++) {
+        const int is_control = *at < 32 || *at == 127 || (*at == 0xC2 && at[1] < 0xA0);
+        if (is_control) fprintf(stderr, "\\x%02x", *at);
+        else fputc(*at, stderr);
+    }
+}
+
 static int refuse(const char *why, const char *word) {
-    fprintf(stderr, "error: %s '%s'\n\n%s", why, word, usage);
+    fprintf(stderr, "error: %s '", why);
+    complain(word);
+    fprintf(stderr, "'\n\n%s", usage);
     return REFUSED;
 }
 
@@ -48,8 +59,11 @@ static int set(struct option *option, const char *value) {
     if (option->number) return refuse("this option is given twice:", option->name);
     option->number = number_in(value, option->most);
     if (option->number) return WELL;
-    fprintf(stderr, "error: invalid value '%s' for '%s <N>': ", value, option->name);
-    fprintf(stderr, "%s is not in 1..=%lu\n\n", value, (unsigned long)option->most);
+    fputs("error: invalid value '", stderr);
+    complain(value);
+    fprintf(stderr, "' for '%s <N>': ", option->name);
+    complain(value);
+    fprintf(stderr, " is not in 1..=%lu\n\n", (unsigned long)option->most);
     fputs("For more information, try '--help'.\n", stderr);
     return REFUSED;
 }
@@ -154,25 +168,11 @@ struct reading {
 struct desk {
     struct board_register handle;
     uint32_t published;
-    struct reading readings[4];
+    struct reading readings[BOARD_MAJORITIES];
 };
 
 static struct board_room room;
 static struct desk desk;
-
-static char *put(char *to, const char *word) {
-    size_t len = strlen(word);
-    memcpy(to, word, len);
-    return to + len;
-}
-
-static char *put_number(char *to, const char *before, uint64_t number) {
-    char digits[21], *first = digits + sizeof digits - 1;
-    *first = 0;
-    do *--first = (char)('0' + (int)(number % 10));
-    while (number /= 10);
-    return put(put(to, before), first);
-}
 
 /* A fraction, or '-' if it is over 0. */
 static char *put_fraction(char *to, uint64_t swings, uint64_t over) {
@@ -192,10 +192,9 @@ static char *put_chair(char *to, const struct board_chair *row, const struct boa
 
 /* The line of a reading, from after its reader on. */
 static char *put_head(char *to, uint32_t majority, const struct board_counts *counts) {
-    static const char *const majorities[] = {",half", ",70", ",85", ",quorum"};
     const uint64_t numbers[] = {counts->chairs, counts->quota, counts->cast,
                                 counts->total,  counts->omega, counts->coalitions};
-    to = put(put_number(to, ",", desk.published), majorities[majority]);
+    to = put(put(put_number(to, ",", desk.published), ","), board_majority_name(majority));
     for (size_t at = 0; at < sizeof numbers / sizeof *numbers; at++) to = put_number(to, ",", numbers[at]);
     return put(to, "\n");
 }
@@ -231,7 +230,7 @@ static uint8_t answer_publish(void) {
     uint32_t before = desk.published;
     uint8_t fault = board_register_publish(&desk.handle, &desk.published);
     if (fault) return fault;
-    for (size_t at = 0; at < 4 && desk.published != before; at++) desk.readings[at].len = 0;
+    for (size_t at = 0; at < BOARD_MAJORITIES && desk.published != before; at++) desk.readings[at].len = 0;
     printf("published,%lu\n", (unsigned long)desk.published);
     return BOARD_DONE;
 }

@@ -6,7 +6,7 @@ from pathlib import Path
 
 import pytest
 from tests.cases.case_files import cases_of_c
-from tests.portable.compilers import GCC, PORTABLE, SANITIZERS, SYSTEMS, Built, on
+from tests.portable.compilers import GCC, SANITIZERS, SYSTEMS, Built, on
 from tests.shared.commands import TOP, Ended, Words, ended
 from tests.shared.inputs import Call, at_limits, cut_out, end_by_cr, mutated, of_cases, put_byte
 from tests.shared.sizes import drawn, seed
@@ -25,11 +25,12 @@ WORDS = [
     "replay --journal 0", "replay --journal 1000001", "replay --journal --readers", "replay --reader 2",
     "replay --readers2", "replay --readers 2 no", "trace --readers=2 --readers=2", "replay --version",
 ]  # fmt: skip
+# Words that a terminal would obey: an escape, a delete, the end of a line, a control character of Latin-1.
+OBEYED = ["\x1b[31m", "a\x7f", "a\nb", "\x9b31m"]
 # What the shell does with the standard streams of a command.
 STREAMS = ["</", "<&-", ">/dev/full", ">&-", "| head -c 1"]
 # A replay reads its input in pieces. In pieces this short each place is the end of one.
 SHORT_PIECES = ["-DBOARD_MAIN", "-DPIECE_BYTES=40", "-DPIECE_ITEMS=3"]
-INCLUDED = [f"-include{it}" for it in ("stdlib.h", "string.h", "board.h")]
 READINGS = 20_000
 
 
@@ -97,6 +98,16 @@ def test_words(built: Built, program: Path) -> None:
     assert not differ
 
 
+@on([GCC])
+@pytest.mark.parametrize("word", OBEYED, ids=ascii)
+def test_refused_words(built: Built, word: str) -> None:
+    # Catches: a refused word that is written so that a terminal obeys it.
+    for words in [word], ["replay", word], ["replay", "--readers", word], ["replay", f"--readers={word}"]:
+        found = ended([*built.program(), *words], b"")
+        assert found.status == REFUSED and b"error: " in found.complaint, words
+        assert word.encode() not in found.complaint, found.complaint
+
+
 @on(SYSTEMS)
 @pytest.mark.parametrize("command", COMMANDS)
 def test_long_inputs(built: Built, program: Path, command: str) -> None:
@@ -134,8 +145,7 @@ def check_replay(words: Words, program: Path, call: Call) -> None:
 @on([GCC, SANITIZERS[1]])
 def test_short_pieces(built: Built, program: Path) -> None:
     # Catches: a record that is cut, left out, taken twice or misnumbered where a piece of the input ends.
-    source = PORTABLE / "src" / "main.c"
-    words = built.linked([built.object(*SHORT_PIECES, *INCLUDED, source=source), built.object()])
+    words = built.linked([built.object(*SHORT_PIECES)])
     for call in built.some([*of_cases(), *mutated(seed(), drawn(200, 2_000))]):
         check_replay(words, program, call)
 

@@ -30,16 +30,6 @@ struct test {
     uint64_t at;
 };
 
-static void write_command(FILE *to, const struct board_command *command) {
-    static const char *const words[] = {"open", "close", "move", "votes", "suspend", "restore", "admit", "withdraw"};
-    fputs(words[command->kind], to);
-    if (has_code(command)) fprintf(to, ",%s", command->code);
-    if (command->kind == BOARD_MOVE && command->chair == 0) fputs(",none", to);
-    else if (has_chair(command)) fprintf(to, ",%" PRIu64, command->chair);
-    if (has_votes(command)) fprintf(to, ",%" PRIu64, command->votes);
-    fputc('\n', to);
-}
-
 /* Writes the register's opening as the beginning of a script. */
 static void write_opening(struct test *test) {
     struct board_entry entry;
@@ -156,6 +146,33 @@ static void look_closely(struct test *test, uint32_t from) {
     compare(&test->handle, &test->model, test->at);
 }
 
+/* A copy of the register is taken back at random, again and again, and is then that of its first commands. */
+static void take_copy_back(struct test *test, struct draw *draw) {
+    struct board_register copy = {0};
+    struct board_counts counts, wanted;
+    struct model model, shorter;
+    start_again(&model, &test->model, UINT32_MAX, UINT32_MAX);
+    if (board_register_copy(&test->handle, UINT32_MAX, &copy) != BOARD_DONE) stop("no copy", test->at);
+    for (int time = 0; time < 3; time++) {
+        uint32_t accepted = (uint32_t)lot(draw, model.accepted + 2);
+        uint32_t published = (uint32_t)lot(draw, model.published + 2);
+        if (board_register_undo(&copy, accepted, published) != BOARD_DONE) stop("no undo", test->at);
+        start_again(&shorter, &model, accepted, published);
+        end_model(&model);
+        model = shorter;
+        compare(&copy, &model, test->at);
+        const uint64_t *words = model.published_words;
+        if (board_register_read(&copy, BOARD_HALF, &room, &counts) != BOARD_DONE) stop("no reading", test->at);
+        if (board_counts_of_sheet(words, BOARD_SHEET_WORDS, BOARD_HALF, &room, &wanted)) stop("no counts", test->at);
+        if (memcmp(&counts, &wanted, sizeof counts) != 0) stop("another reading after an undo", test->at);
+    }
+    compare_history(&copy, &model, 0, test->at);
+    compare(&test->handle, &test->model, test->at);
+    board_register_free(&copy);
+    if (board_register_undo(&copy, 0, 0) != BOARD_NO_REGISTER) stop("an undo of no register", test->at);
+    end_model(&model);
+}
+
 /* The copy of the register at each length is that of its first commands carried out again. */
 static void copy_all(struct test *test) {
     struct board_register copy = {0}, again = {0};
@@ -238,6 +255,7 @@ static int test_all(const char *program, uint64_t seed, uint32_t many) {
         if (lot(&publications, EVERY / 4) == 0) publish(&test);
         if (test.at % EVERY != EVERY - 1 && test.at + 1 != many) continue;
         look_closely(&test, compared);
+        take_copy_back(&test, &publications);
         compared = test.model.accepted;
     }
     compare_history(&test.handle, &test.model, 0, many);

@@ -133,12 +133,30 @@ static void start_both(uint64_t seed, uint32_t many) {
 static void copy_other(uint32_t accepted) {
     struct model shorter;
     if (with_refusals(copy_some, &accepted, accepted) != BOARD_DONE) stop("no copy after refusals", accepted);
-    start_model(&shorter, model.opening, model.entries, model.limit);
-    for (uint32_t at = 0; at < accepted && at < model.accepted; at++) obey(&shorter, &model.journal[at]);
-    shorter.published = model.published < shorter.accepted ? model.published : shorter.accepted;
+    start_again(&shorter, &model, accepted, UINT32_MAX);
     end_model(&other_model);
     other_model = shorter;
     compare_both(accepted);
+}
+
+/* A register is taken back while any allocation would be refused: none is asked for, and no block is freed. The
+ * commands are then accepted again. */
+static void undo_and_redo(uint32_t to) {
+    struct model whole = model;
+    long before = asked, held = blocks;
+    left = 0;
+    uint8_t answer = board_register_undo(&handle, to, UINT32_MAX);
+    left = NEVER;
+    if (answer != BOARD_DONE || asked != before) stop("an undo that asks for memory", to);
+    if (blocks != held) stop("an undo that frees memory", to);
+    start_again(&model, &whole, to, UINT32_MAX);
+    compare_both(to);
+    for (uint32_t at = to; at < whole.accepted; at++) {
+        if (apply_one(&whole.journal[at]) != BOARD_DONE) stop("a command that was taken back isn't accepted", at);
+        obey(&model, &whole.journal[at]);
+    }
+    end_model(&whole);
+    compare_both(to);
 }
 
 static void apply_all(uint64_t seed, uint32_t many) {
@@ -151,7 +169,9 @@ static void apply_all(uint64_t seed, uint32_t many) {
         compare_both(at);
         if (at % 64 == 0) ask_for_nothing(&command, at);
         if (at % 256 == 0) copy_other(model.accepted / 2);
+        if (at % 1024 == 0) undo_and_redo(model.accepted / 2);
     }
+    undo_and_redo(0);
     copy_other(UINT32_MAX);
     compare_history(&handle, &model, 0, many);
     compare_history(&other, &other_model, 0, many);

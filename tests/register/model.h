@@ -2,6 +2,7 @@
 #ifndef MODEL_H
 #define MODEL_H
 
+#include <inttypes.h>
 #include <stdio.h>
 #include <stdlib.h>
 #include <string.h>
@@ -72,6 +73,17 @@ static int has_chair(const struct board_command *command) { return command->kind
 
 static int has_votes(const struct board_command *command) {
     return command->kind == BOARD_VOTES || command->kind == BOARD_ADMIT;
+}
+
+/* Writes a command as a record of a script. */
+static inline void write_command(FILE *to, const struct board_command *command) {
+    static const char *const words[] = {"open", "close", "move", "votes", "suspend", "restore", "admit", "withdraw"};
+    fputs(words[command->kind], to);
+    if (has_code(command)) fprintf(to, ",%s", command->code);
+    if (command->kind == BOARD_MOVE && command->chair == 0) fputs(",none", to);
+    else if (has_chair(command)) fprintf(to, ",%" PRIu64, command->chair);
+    if (has_votes(command)) fprintf(to, ",%" PRIu64, command->votes);
+    fputc('\n', to);
 }
 
 static int is_capital(char letter) { return letter >= 'A' && letter <= 'Z'; }
@@ -169,6 +181,17 @@ static void obey(struct model *model, const struct board_command *command) {
         model->count++;
         break;
     default: memmove(member, member + 1, (--model->count - at) * sizeof *member);
+    }
+}
+
+/* Starts a model as another was after its first commands. Those published there are published here, but no more than
+ * the first `published`. */
+static inline void start_again(struct model *again, const struct model *model, uint32_t accepted, uint32_t published) {
+    uint32_t front = published < model->published ? published : model->published;
+    start_model(again, model->opening, model->entries, model->limit);
+    for (uint32_t at = 0; at < accepted && at < model->accepted; at++) {
+        obey(again, &model->journal[at]);
+        if (again->accepted <= front) publish_model(again);
     }
 }
 

@@ -2,8 +2,8 @@
 under AddressSanitizer and UBSan, and under valgrind and its helgrind.
 
 replay.c replays inputs as data, and prints what the program prints; commands.c carries out random commands beside a
-model, and compares counts with the program's; memory.c refuses each allocation in turn; handles.c calls on handles
-without a register; threads.c uses threads."""
+model, and compares counts with the program's; text.c writes registers as scripts and reads them; memory.c refuses each
+allocation in turn; handles.c calls on handles without a register; threads.c uses threads."""
 from __future__ import annotations
 
 import subprocess
@@ -165,6 +165,13 @@ def test_answers(run: Run, kept: Kept, program: Path) -> None:
     made = printed([*words, "made", str(SEEDS[0]), str(SANITIZERS.commands)])
     accepted = int.from_bytes(printed([*words, "answers"], made)[-8:], "little")
     assert run(PLAIN, "commands", "test", program, SEEDS[0], SANITIZERS.commands).startswith(f"{accepted} accepted, ")
+
+
+@pytest.mark.parametrize("seed", SEEDS)
+@pytest.mark.parametrize("way", [PLAIN, SANITIZERS], ids=name_of)
+def test_text(run: Run, way: Way, seed: int) -> None:
+    # Catches: a register or a command that is written as another script or record, or past its room.
+    run(way, "text", seed, way.commands)
 
 
 @pytest.mark.parametrize("seed", SEEDS)

@@ -18,7 +18,7 @@ def kit() -> Path:
 
 
 C_FILE = TOP / "portable" / "board.c"
-NAMES = ['-DBOARD_VERSION="of tests"', str(HEADER / "names.c")]
+TEXTS = ['-DBOARD_VERSION="of tests"', str(HEADER / "texts.c")]
 
 
 def native() -> Words:
@@ -30,7 +30,7 @@ def native() -> Words:
 
 def over(libraries: Words, source: Path, made: Path, *flags: str, compiler: str = "cc") -> str:
     """A program in C over libraries, compiled without a warning."""
-    names = [] if str(C_FILE) in libraries else NAMES
+    names = [] if str(C_FILE) in libraries else TEXTS
     printed([compiler, *STRICT, *names, *flags, str(source), *libraries, "-o", str(made)])
     return str(made)
 

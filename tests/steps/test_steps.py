@@ -1,6 +1,7 @@
 """Changes planted in compiled code, each of which tools/steps must refuse.
 
-They are made in the text of the LLVM module of memory_tests, cut down to the functions that some calls need."""
+They are made in the text of the LLVM module of memory_tests, cut down to the functions that some calls need, and of the
+program's main."""
 from __future__ import annotations
 
 import re
@@ -13,7 +14,7 @@ import pytest
 from tests.shared.commands import TOP, ended, tool
 
 TOOL, TABLE = TOP / "tools" / "steps", TOP / "tools" / "steps.txt"
-MODULE = TOP / "out" / "memory_tests.bc"
+MODULE, PROGRAM = TOP / "out" / "memory_tests.bc", TOP / "out" / "board.bc"
 steps = tool("steps")
 
 Calls = tuple[str, ...]
@@ -214,4 +215,34 @@ def test_a_refusal_fails_the_check(planted: Planted, tmp_path: Path) -> None:
     assert done.status == 1
     assert "not in the table: order board_share::readers::Reader::read: store load x36 store\n" in output
     assert "in no module: size " in output
-    assert re.search(r"\n\d passed, [1-9] failed\n$", output)
+    assert re.search(r"\n\d+ passed, [1-9]\d* failed\n$", output)
+
+
+@pytest.fixture(scope="module")
+def program() -> Any:
+    assert PROGRAM.is_file(), f"{PROGRAM} isn't here: make steps-tests builds it"
+    return steps.Module.of_file(PROGRAM, steps.clang())
+
+
+def exchanged(body: str) -> str:
+    """The call of `process` with the two outputs, its last arguments, exchanged."""
+    call = line_with(body, "programs::process")
+    return body.replace(call, re.sub(r"(ptr %\w+), (ptr %\w+)\)$", r"\2, \1)", call))
+
+
+@pytest.mark.parametrize(
+    "change",
+    [
+        pytest.param(lambda body: body + "\n", id="nothing"),
+        pytest.param(first(f"%planted = call i64 @write(i32 1, {AT}, i64 1)"), id="a line first"),
+        pytest.param(lambda body: re.sub(r"store i8 %\w+, ptr", "store i8 0, ptr", body), id="always status 0"),
+        pytest.param(exchanged, id="output and errors exchanged"),
+    ],
+)
+def test_the_program(program: Any, change: Change, request: pytest.FixtureRequest) -> None:
+    # Catches: a main that does more than `process`, or passes on something else, which no clause excludes.
+    [name] = [it for it in program.functions if steps.untyped(it) == steps.PROGRAM]
+    body = program.functions[name].text
+    module = steps.Module(program.text.replace(body, change(body)))
+    table = TABLE.read_text().splitlines()
+    assert (steps.lines_of("main", [module])[0] in table) == request.node.name.endswith("[nothing]")

@@ -12,7 +12,7 @@ loadSync(module);
 const UNTOUCHED = 0xaa;
 const CHAIRS = 32;
 const COUNTS = 8 * (7 + 3 * CHAIRS);
-const ROOM = 1310720n;
+const ROOM = 1048576n;
 const BAD_LIMIT = { text: "fault,0,BadLimit\n", fault: 13, record: 0 };
 const UNKNOWN = "none";
 

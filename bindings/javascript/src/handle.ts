@@ -154,6 +154,11 @@ export class Handle {
     return new Handle(instance, (handle) => instance.call("board_register_copy", from, accepted, handle));
   }
 
+  /** Takes the register back to its first commands, of which no more than these are published. It needs no memory. */
+  undo(accepted: number, published: number): void {
+    mustBeDone(this.#instance.call("board_register_undo", this.#handle, accepted, published));
+  }
+
   /** Frees the register, if it wasn't yet. */
   free(): void {
     if (this.#at === undefined) return;

@@ -14,7 +14,7 @@ export const MEMBER = 24;
 export const ENTRY = 16;
 export const COMMAND = 24;
 export const ITEM = 48;
-export const ROOM = 65536 * 2 * (WORD + 2);
+export const ROOM = 65536 * 2 * WORD;
 export const SHEET = WORD * (CHAIRS + 2);
 const HANDLE = 16;
 /** The largest number in 64 bits. */

@@ -253,24 +253,17 @@ export class Register {
     }
   }
 
-  /** Carries out records, all or none. More than one are carried out on a copy, which then takes the register's place:
-   * so no memory is needed where the register stays as it is. */
+  /** Carries out records, all or none: where one is refused, the register is taken back, which needs no memory. */
   #carryOut(list: Iterable<Order>): number {
-    const now = this.#handle;
-    if (Array.isArray(list) && list.length <= 1) {
-      carryOut(now, list, "refused");
-      return now.accepted;
-    }
-    const copy = now.copy(now.accepted);
+    const handle = this.#handle;
+    const { accepted, published } = handle;
     try {
-      carryOut(copy, list, "refused");
+      carryOut(handle, list, "refused");
     } catch (why) {
-      copy.free();
+      if (handle.accepted !== accepted || handle.published !== published) handle.undo(accepted, published);
       throw why;
     }
-    this.#handle = copy;
-    now.free();
-    return copy.accepted;
+    return handle.accepted;
   }
 
   #command(kind: Kind, code: string | null, chair: Whole | null | undefined, votes: Whole | null): number {
@@ -476,11 +469,9 @@ export class Register {
       if (typeof to !== "number" && typeof to !== "bigint") throw wrongType("the length is", to, ALLOWED.length);
       throw new Refused(refused.BAD_INDEX, `the length is ${to}: ${ALLOWED.length}, ${accepted}`);
     }
-    const copy = this.#handle.copy(Number(to));
-    this.#handle.free();
-    this.#handle = copy;
-    this.#names = this.#names.first(copy.accepted);
-    return copy.accepted;
+    this.#handle.undo(Number(to), Number(to));
+    this.#names = this.#names.first(Number(to));
+    return Number(to);
   }
 
   /** Gives the memory back. Later calls are `Refused` as NoRegister (34), but a second `free` does nothing. */

@@ -105,14 +105,33 @@ def test_page_of_a_study(table: Path, tmp_path: Path) -> None:
         {"kind": "move", "code": "DDD", "chair": 2},
     ]
     assert [it["what"] for it in found["scenarios"][1]["changes"]] == [
-        {"kind": "votes", "code": "BBB", "votes": 13},
-        {"kind": "votes", "code": "CCC", "votes": 8},
+        {"kind": "share", "codes": ["BBB", "CCC"], "percent": "30", "others": "keep"},
         {"kind": "open", "chair": 3},
         {"kind": "move", "code": "AAA", "chair": 3},
         {"kind": "suspend", "code": "AAA"},
     ]
     ids = [it["id"] for one in found["scenarios"] for it in one["changes"]]
-    assert ids == list(range(1, 8))
+    assert ids == list(range(1, 7))
+
+
+def test_saved_study(table: Path, tmp_path: Path) -> None:
+    # Catches: a study that opens with other scenarios, names or numbers than it was written with; a page, a file beside
+    # it and a table that give three answers; a total that isn't looked at.
+    group = "Group: share,BBB+CCC,+6 points,pay; merge,2,1; split,CCC+DDD,"
+    words = [*(f"--scenario={it}" for it in [*SCENARIOS, group]), f"--sweep={SWEEPS[1]}"]
+    good("study", table, *words, "--title", "Once", tmp_path / "out")
+    page = (tmp_path / "out.html").read_text()
+    saved = tmp_path / "it.study.json"
+    saved.write_text(page.partition(START)[2].partition("</script>")[0])
+    rows = [it for it in (tmp_path / "out.csv").read_text().splitlines() if not it.startswith("# ")]
+    for name in (tmp_path / "out.html", saved):
+        good("study", name, "--total", 90, tmp_path / "again")
+        again = (tmp_path / "again.csv").read_text().splitlines()
+        assert [it for it in again if not it.startswith("# ")] == rows
+        data = (tmp_path / "again.html").read_text().partition('"study": ')[2].partition(', "view"')[0]
+        assert data == page.partition('"study": ')[2].partition(', "view"')[0]
+    done = ran("study", saved, "--total", 91, tmp_path / "none")
+    assert done.returncode == 1 and b"the votes below add up to 90, and the published total is 91" in done.stderr
 
 
 @pytest.mark.parametrize(

@@ -162,14 +162,14 @@ def test_out_of_memory() -> None:
         script = register.script()
         run = replay(script)
         limit(1 << 20)
-        print(fails(register.what_if), fails(lambda: register.undo(499_999)))
-        print(fails(lambda: register.submit("open,2\\nopen,3")))
+        print(fails(register.what_if), register.undo(499_999))
+        print(fails(lambda: register.submit("open,2\\nclose,2\\n" * 20_000)))
         print(fails(lambda: replay_text(script)), fails(lambda: replay(script)), fails(lambda: run.register()))
         limit(None)
         print(register.accepted, register.open(2), indices([50, 49, 1], "half").swings)
     """
     )
-    assert (found.stderr, found.stdout) == ("", "True True\nTrue\nTrue True True\n500000 500001 (3, 1, 1)\n")
+    assert (found.stderr, found.stdout) == ("", "True 499999\nTrue\nTrue True True\n499999 500000 (3, 1, 1)\n")
 
 
 def test_registers_are_freed() -> None:

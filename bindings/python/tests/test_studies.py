@@ -1,19 +1,24 @@
 """Studies: scenarios, sweeps, thresholds, sentences and tables, compared with replays and with counts of their own."""
 from __future__ import annotations
 
+import json
 import random
+import re
 import signal
 import threading
 import time
 from fractions import Fraction
 from pathlib import Path
+from typing import Any
 
 import pytest
 from hypothesis import given
 from hypothesis import strategies as some
 
 from voting_board import MAJORITIES, Register, indices_of_members, replay, replay_text
-from voting_board.amounts import BadStudy, records_of, shared_out
+from voting_board.amounts import BadStudy, shared_out
+from voting_board.operations import records_of
+from voting_board.saved_studies import command_of
 from voting_board.scenarios import scenarios_in, sweep_of
 from voting_board.studies import Moved, Study, study, thresholds
 from voting_board.study_files import STUDY_COLUMNS, study_table
@@ -119,11 +124,58 @@ def test_shared_out(votes: int, weights: list[int]) -> None:
         ("votes,BBB,+2%", ["votes,BBB,26"]),
         ("votes,AAA,50% of total", ["votes,AAA,61"]),
         ("votes,chair 2,+100%", ["votes,BBB,50", "votes,CCC,32"]),
+        ("votes,BBB+CCC,-90%", ["votes,BBB,2", "votes,CCC,2"]),
         ("votes,BBB+CCC,3", ["votes,BBB,2", "votes,CCC,1"]),
     ],
 )
 def test_amounts(command: str, records: list[str]) -> None:
     assert records_of(Register(SMALL).members, command) == records
+
+
+def operations() -> list[dict[str, Any]]:
+    """The cases that the page's units read, too."""
+    path = EXAMPLE.parents[1] / "tests" / "packages" / "operations.json"
+    return list(json.loads(path.read_text())) if path.exists() else []
+
+
+@pytest.mark.parametrize("case", operations(), ids=lambda it: str(it["text"]))
+def test_operations(case: dict[str, Any]) -> None:
+    # Catches: another meaning of an operation than in the page, also where members or all others have no votes; a text
+    # that the page's study becomes and that means something else.
+    votes = {"AAA": 50, "BBB": 30, "CCC": 20, "DDD": 45, "EEE": 5}
+    register = Register({"code": [*votes], "votes": [*votes.values()]})
+    places = [("AAA", 1), ("BBB", 1), ("CCC", 1), ("DDD", 2)]
+    register.submit(
+        [*(f"open,{it}" for it in (1, 2, 3)), *(f"move,{code},{it}" for code, it in places), *case["start"]]
+    )
+    assert command_of(case["data"]) == case["text"]
+    if "why" in case:
+        with pytest.raises(BadStudy, match=re.escape(case["why"])):
+            Moved(register).after([case["text"]])
+        return
+    [taken] = Moved(register).after([case["text"]]).taken
+    assert list(map(str, taken.done)) == case["records"]
+    # A move or a split of one member is the register's own command in a text.
+    assert taken.operation == case["data"]
+
+
+@pytest.mark.parametrize(
+    "command, said",
+    [
+        ("merge,1", "'merge,1': '' isn't a chair, which is a whole number from 1 to 32"),
+        ("merge,1,33", "'merge,1,33': '33' isn't a chair"),
+        ("dissolve,2,3,4", "'dissolve,2,3,4': dissolve takes chair, to"),
+        ("split,Bland", "'split,Bland': 'Bland' isn't codes joined by +"),
+        ("scale,BBB,10%", "'scale,BBB,10%': '10%' isn't per cent with a sign, such as +10%"),
+        ("share,BBB,+6%,pay", "'share,BBB,+6%,pay': '+6%' isn't per cent of the total such as 20%, or points"),
+        ("share,BBB,6%", "'share,BBB,6%': '' isn't what the others do: pay or keep"),
+        ("move,BBB+CCC,x", "'move,BBB+CCC,x': 'x' isn't a chair, or nothing for no chair"),
+    ],
+)
+def test_wrong_operations(command: str, said: str) -> None:
+    # Catches: a wrong operation that is carried out as another one.
+    with pytest.raises(BadStudy, match=re.escape(said)):
+        study(SMALL, scenarios={"It": command})
 
 
 @pytest.mark.parametrize(
@@ -156,12 +208,13 @@ def test_refused_scenarios(scenario: str, said: str) -> None:
         ("AAA 1..2", "isn't of the form"),
         ("EEE 1..2 by 1 %", "EEE sits in no chair"),
         ("chair 9 1..2 by 1 %", "chair 9 has no member whose votes count"),
+        ("from None: chair 2 1..2 by 1 %", "these members have no votes, so no proportions to keep"),
         ("from Lost: AAA 1..2 by 1 %", "no scenario has the label 'Lost'"),
     ],
 )
 def test_refused_sweeps(sweep: str, said: str) -> None:
     with pytest.raises(BadStudy, match=said):
-        study(SMALL, sweeps=[sweep])
+        study(SMALL, scenarios={"None": "votes,BBB,0; votes,CCC,0"}, sweeps=[sweep])
 
 
 @pytest.mark.parametrize(

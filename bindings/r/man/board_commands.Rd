@@ -74,9 +74,8 @@ the refusal: a condition of class \code{"board_refused"}.
 \section{Conditions}{
 \link{board_refused}: a command that the register refuses changes nothing. A list is refused with the number and the
 text of its first refused record. \code{board_rename} refuses a closed chair. A record \code{read} is refused, since it
-is no command. Where memory runs out, \code{OutOfMemory} refuses the command, the whole list, or \code{board_undo}, and
-the register stays as it is. A list of two or more records is carried out on a copy, which takes the register's place at
-the end.
+is no command. Where memory runs out, \code{OutOfMemory} refuses the command or the whole list, and the register stays
+as it is. \code{board_undo} needs no memory.
 }
 \examples{
 r <- board_register(c(AAA = 50, BBB = 49, CCC = 1))

@@ -405,14 +405,6 @@ static uint8_t checked(uint8_t result, struct board_register *handle) {
     return result;
 }
 
-/* Moves the register of one handle to another, whose register is freed. */
-static void move_register(struct board_register *from, struct board_register *to) {
-    board_register_free(to);
-    *to = *from;
-    memset(from, 0, sizeof *from);
-    weigh(to);
-}
-
 static SEXP r_start(SEXP codes, SEXP votes, SEXP journal) {
     struct board_register *handle;
     R_xlen_t len = XLENGTH(codes);
@@ -591,12 +583,12 @@ static SEXP r_copy(SEXP pointer, SEXP length) {
 
 /* Goes back to the first commands, with their names of chairs. */
 static SEXP r_undo(SEXP pointer, SEXP length, SEXP names) {
-    struct board_register *handle = handle_of(pointer), copy = {0};
+    struct board_register *handle = handle_of(pointer);
     struct held *held = (struct held *)handle;
     uint32_t accepted = one_number(length);
-    uint8_t refusal = checked(board_register_copy(handle, accepted, &copy), &copy);
+    uint8_t refusal = checked(board_register_undo(handle, accepted, accepted), handle);
     if (refusal != BOARD_DONE) return ScalarInteger(refusal);
-    move_register(&copy, handle);
+    weigh(handle);
     memset(&held->now, 0, sizeof held->now);
     memset(&held->published, 0, sizeof held->published);
     return r_set_names(pointer, names);
@@ -673,79 +665,90 @@ static uint8_t next_piece(struct script *it) {
     }
 }
 
-/* Where a script is refused: the number of the refusal, that of the record, and the record's bytes from an offset to
- * another, or NA. */
-static SEXP refused_at(uint8_t refusal, double record, double from, double to) {
-    SEXP place = PROTECT(allocVector(REALSXP, 4));
-    const double numbers[] = {refusal, record, from, to};
-    memcpy(REAL(place), numbers, sizeof numbers);
+/* Where a script is refused: the number of the refusal, or 0 if nothing is, that of the record, and the record's bytes
+ * from an offset to another, or NA. */
+struct place {
+    double refusal, record, from, to;
+};
+
+static const struct place NOWHERE = {0, 0, 0, 0};
+
+/* A place as R gets it, or NULL. */
+static SEXP answer_at(struct place place) {
+    if (place.refusal == 0) return R_NilValue;
+    SEXP found = PROTECT(allocVector(REALSXP, 4));
+    memcpy(REAL(found), &place, sizeof place);
     UNPROTECT(1);
-    return place;
+    return found;
 }
 
-static SEXP refused_item(const struct script *it, const struct board_item *item, uint8_t refusal) {
+static struct place refused_item(const struct script *it, const struct board_item *item, uint8_t refusal) {
     double offset = (double)it->piece_at - (double)it->opening;
-    return refused_at(refusal, it->base + item->number, offset + item->from, offset + item->to);
+    return (struct place){refusal, it->base + item->number, offset + item->from, offset + item->to};
 }
 
-static SEXP refused_fault(const struct script *it, uint8_t fault) {
+static struct place refused_fault(const struct script *it, uint8_t fault) {
     double from = it->many ? (double)it->items[it->many - 1].to - (double)it->opening : 0;
-    return refused_at(fault, it->record ? it->base + it->record : 0, (double)it->piece_at + from, NA_REAL);
+    return (struct place){fault, it->record ? it->base + it->record : 0, (double)it->piece_at + from, NA_REAL};
 }
 
-/* Carries out an item that changes a register, or only checks it. */
-static uint8_t carry_out(struct board_register *handle, const struct board_item *item, int keep) {
+/* Carries out an item that changes a register. */
+static uint8_t carry_out(struct board_register *handle, const struct board_item *item) {
     uint32_t number;
-    uint8_t result;
     if (item->command.kind == BOARD_READ) return BOARD_BAD_RECORD;
-    if (item->command.kind == BOARD_PUBLISH) result = keep ? board_register_publish(handle, &number) : BOARD_DONE;
-    else if (keep) result = board_register_apply(handle, &item->command, &number);
-    else result = board_register_check(handle, &item->command);
-    return checked(result, handle);
+    return checked(item->command.kind == BOARD_PUBLISH ? board_register_publish(handle, &number)
+                                                       : board_register_apply(handle, &item->command, &number),
+                   handle);
 }
 
 /* Carries out the rest of a script on a register, from a piece that is read and its fault; with `reads`, readings are
- * passed over. NULL if nothing is refused. */
-static SEXP run(struct script *it, uint8_t fault, struct board_register *handle, int reads) {
+ * passed over. R allocates nothing meanwhile. */
+static struct place run(struct script *it, uint8_t fault, struct board_register *handle, int reads) {
     for (;;) {
         for (size_t at = 0; at < it->many; at++) {
             const struct board_item *item = &it->items[at];
             if (reads && item->command.kind == BOARD_READ) continue;
-            uint8_t refusal = carry_out(handle, item, 1);
+            uint8_t refusal = carry_out(handle, item);
             if (refusal != BOARD_DONE) return refused_item(it, item, refusal);
         }
         if (fault != BOARD_DONE) return refused_fault(it, fault);
-        if (it->at == it->len) return R_NilValue;
+        if (it->at == it->len) return NOWHERE;
         fault = next_piece(it);
     }
 }
 
-/* Carries out records, all or none, or only checks them. A single one is carried out on the register itself, and more
- * of them on a copy, which then takes its place: so no memory is needed where it stays as it is. NULL if nothing is
- * refused. */
-static SEXP carried_out(SEXP pointer, SEXP text, int keep) {
-    struct board_register *handle = handle_of(pointer), *copy;
-    struct script it = script_of(text);
-    uint8_t fault = next_piece(&it);
-    if (fault == BOARD_DONE && it.at == it.len && it.many <= 1) {
-        uint8_t refusal = it.many ? carry_out(handle, &it.items[0], keep) : BOARD_DONE;
-        weigh(handle);
-        return refusal == BOARD_DONE ? R_NilValue : refused_item(&it, &it.items[0], refusal);
-    }
-    SEXP other = PROTECT(new_handle(&copy));
-    uint8_t refusal = checked(board_register_copy(handle, BOARD_COMMANDS, copy), copy);
-    SEXP refused = refusal == BOARD_DONE ? run(&it, fault, copy, 0) : refused_at(refusal, 0, 0, NA_REAL);
-    PROTECT(refused);
-    if (keep && refused == R_NilValue) move_register(copy, handle);
-    finalize(other);
-    UNPROTECT(2);
-    return refused;
+/* Takes a register back to these numbers of accepted and published commands, unless it is there. It needs no memory. */
+static void take_back(struct board_register *handle, uint32_t accepted, uint32_t published) {
+    if (board_register_accepted(handle) != accepted || board_register_published(handle) != published)
+        board_register_undo(handle, accepted, published);
 }
 
-static SEXP r_submit(SEXP pointer, SEXP text) { return carried_out(pointer, text, 1); }
+/* Carries out records, all or none. NULL if nothing is refused. */
+static SEXP r_submit(SEXP pointer, SEXP text) {
+    struct board_register *handle = handle_of(pointer);
+    struct script it = script_of(text);
+    uint8_t fault = next_piece(&it);
+    const uint32_t accepted = board_register_accepted(handle), published = board_register_published(handle);
+    const struct place refused = run(&it, fault, handle, 0);
+    if (refused.refusal != 0) take_back(handle, accepted, published);
+    weigh(handle);
+    return answer_at(refused);
+}
 
-/* What would refuse records. */
-static SEXP r_check(SEXP pointer, SEXP text) { return carried_out(pointer, text, 0); }
+/* What would refuse records: a command is checked, and anything else is carried out and taken back. */
+static SEXP r_check(SEXP pointer, SEXP text) {
+    struct board_register *handle = handle_of(pointer);
+    struct script it = script_of(text);
+    uint8_t fault = next_piece(&it);
+    if (fault == BOARD_DONE && it.at == it.len && it.many == 1 && it.items[0].command.kind <= BOARD_WITHDRAW) {
+        uint8_t refusal = checked(board_register_check(handle, &it.items[0].command), handle);
+        return refusal == BOARD_DONE ? R_NilValue : answer_at(refused_item(&it, &it.items[0], refusal));
+    }
+    const uint32_t accepted = board_register_accepted(handle), published = board_register_published(handle);
+    const struct place refused = run(&it, fault, handle, 0);
+    take_back(handle, accepted, published);
+    return answer_at(refused);
+}
 
 /* Reads the first piece of a script with its members. Returns a fault that isn't due to the cut, or BOARD_DONE. */
 static uint8_t first_piece(struct script *it, struct board_entry *entries, size_t *members) {
@@ -776,13 +779,15 @@ static SEXP r_from_script(SEXP text, SEXP journal) {
     uint32_t most = one_number(journal);
     struct script it = script_of(text);
     uint8_t fault = first_piece(&it, entries, &members);
-    if (fault != BOARD_DONE && it.many == 0 && it.record <= members + OPENING_RECORDS) return refused_fault(&it, fault);
+    if (fault != BOARD_DONE && it.many == 0 && it.record <= members + OPENING_RECORDS)
+        return answer_at(refused_fault(&it, fault));
     SEXP pointer = PROTECT(new_handle(&handle));
     uint8_t refusal = checked(board_register_start(entries, members, most, handle), handle);
-    SEXP refused = refusal == BOARD_DONE ? run(&it, fault, handle, 1) : refused_at(refusal, 0, 0, NA_REAL);
+    struct place refused = refusal == BOARD_DONE ? run(&it, fault, handle, 1) : (struct place){refusal, 0, 0, NA_REAL};
     weigh(handle);
+    SEXP found = refused.refusal == 0 ? pointer : answer_at(refused);
     UNPROTECT(1);
-    return refused == R_NilValue ? pointer : refused;
+    return found;
 }
 
 /* A replay, and what a reading by each majority is of since the last publication: the place of its counts in `boards`,

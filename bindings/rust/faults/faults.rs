@@ -63,15 +63,7 @@ fn memory_runs_out_while_commands_are_carried_out() {
     assert!(failures > 2);
     assert_eq!((register.accepted(), register.published()), (103, 103));
     let mut register = three();
-    let before = format!("{register:?}");
-    let failures = each_allocation(|| {
-        let result = register.undo_to(1);
-        if result.is_err() {
-            assert_eq!(format!("{register:?}"), before);
-        }
-        result
-    });
-    assert!(failures > 0);
+    assert_eq!(each_allocation(|| register.undo_to(1)), 0);
     assert_eq!(register.accepted(), 1);
 }
 

@@ -14,7 +14,7 @@ use Rattle.c_values.specs.declared.counts.BoardCounts.{BoardCounts}
 use Rattle.c_values.specs.declared.commands.BoardCommand.{BoardCommand}
 use Rattle.c_values.specs.declared.entries.BoardEntry.{BoardEntry}
 use Rattle.board_c.specs.declared.TheConstants.{DONE}
-use Rattle.board_c.specs.Calls.{AcceptsAs, Answers, AnswersCopy, AnswersWith, Begins, IsAccepted, IsCopied, IsRefusedStart, IsStarted, OfRegister, WritesAt, WritesCommand, WritesCounts, all_published, opening_entry, reply_number, register_in, reply, row_at, start_reply}
+use Rattle.board_c.specs.Calls.{AcceptsAs, Answers, AnswersCopy, AnswersWith, Begins, HasAccepted, IsCopied, IsRefusedStart, IsStarted, OfRegister, WritesAt, WritesCommand, WritesCounts, all_published, opening_entry, reply_number, register_in, reply, row_at, start_reply}
 use Rattle.board_c.specs.declared.register.handles.BoardRegister.{BoardRegister}
 
 -- the answer of a call that is not refused
@@ -161,15 +161,15 @@ handle_with state s = record { at = null_ptr; state = state; register = s }
 pub third : AcceptsAs small (with_third (Open 3)) (command 0 3) 3 × (AcceptsAs small (with_third (Open 3)) (command 0 3) 2 → ⊥)
 third = ((Open 3, refl, refl, refl), (λ h. omega (arith, h.3)))
 
-pub accepted : IsAccepted (handle 1) (handle_with 1 (with_third (Open 3))) (command 0 3) 3
+pub accepted : HasAccepted (handle 1) (handle_with 1 (with_third (Open 3))) (command 0 3) 3
 accepted = (with_third (Open 3), refl, refl, (Open 3, refl, refl, refl))
 
 -- not in a handle without a register, nor in another handle, nor where the register is the old one
-pub no_handle : (IsAccepted (handle 0) (handle_with 0 (with_third (Open 3))) (command 0 3) 3 → ⊥)
-    × (IsAccepted (handle 0) (handle_with 1 (with_third (Open 3))) (command 0 3) 3 → ⊥)
+pub no_handle : (HasAccepted (handle 0) (handle_with 0 (with_third (Open 3))) (command 0 3) 3 → ⊥)
+    × (HasAccepted (handle 0) (handle_with 1 (with_third (Open 3))) (command 0 3) 3 → ⊥)
 no_handle = ((λ h. cc h.1), (λ h. let state : 1 ≡ 0 = ap (λ (b : BoardRegister). b.state) h.2 in omega (arith, state)))
 
-pub not_accepted : IsAccepted (handle 1) (handle 1) (command 0 3) 2 → ⊥
+pub not_accepted : HasAccepted (handle 1) (handle 1) (command 0 3) 2 → ⊥
 not_accepted h =
     let same : small ≡ h.0 = ap (λ (b : BoardRegister). b.register) h.2 in
     let longer : 2 ≡ 3 = ap (λ (s : Sequential). length s.ledger.journal) same ∙ ap (λ (s : Sequential). length s.ledger.journal) h.3.2 in

@@ -8,7 +8,7 @@ use Rattle.two_copy_steps.specs.Lawful.{IsPrefix}
 use Rattle.board_text.specs.Lines.{LineBytes, fault_line}
 use Rattle.board_text.specs.Text.{fault_at, text_of}
 use Rattle.board_text.specs.declared.faults.Fault.{Fault}
-use Rattle.board_c.specs.Shown.{IsLonger, IsTextOf, IsWhole, Measures, Shows, end_in}
+use Rattle.board_c.specs.Shown.{IsLonger, IsTextOf, IsWhole, Measures, ShowsRun, end_in}
 use Rattle.board_c.specs.Ends.{answer_of, record_of}
 use Rattle.board_c.specs.declared.TheConstants.{DONE}
 use Rattle.board_c.proofs.RunCases.{one_fault, one_line}
@@ -44,14 +44,14 @@ no_record end (inl e) is = let at : 6 ≡ 0 = is ∙ ap record_of e in omega (ar
 no_record end (inr (inl e)) is = let at : 6 ≡ 0 = is ∙ ap record_of e in omega (arith, at)
 no_record end (inr (inr e)) is = let at : 6 ≡ 0 = is ∙ ap record_of e in omega (arith, at)
 
-pub no_fault_shown : (n place : ℕ) (shown : List ℕ) → Shows one_line n shown (code_of BadRecord) place → ⊥
+pub no_fault_shown : (n place : ℕ) (shown : List ℕ) → ShowsRun one_line n shown (code_of BadRecord) place → ⊥
 no_fault_shown n place shown h = no_other_number (end_in n h.text h.end) (end_of n h.text h.end h.of_the_run) h.number
 
-pub no_record_shown : (n answer : ℕ) (shown : List ℕ) → Shows one_line n shown answer 6 → ⊥
+pub no_record_shown : (n answer : ℕ) (shown : List ℕ) → ShowsRun one_line n shown answer 6 → ⊥
 no_record_shown n answer shown h = no_record (end_in n h.text h.end) (end_of n h.text h.end h.of_the_run) h.at
 
 -- nothing is shown where there is no room
-pub no_room : (answer place : ℕ) (shown : List ℕ) → Shows one_line 0 shown answer place → shown ≡ []
+pub no_room : (answer place : ℕ) (shown : List ℕ) → ShowsRun one_line 0 shown answer place → shown ≡ []
 no_room answer place shown h = h.front
 
 -- the text of the line is two bytes long, and that of its fault, where memory was refused, another number's

@@ -7,7 +7,7 @@ use Rattle.council_core.specs.declared.refusals.Refusal.TheVariants.{BadRecord, 
 use Rattle.board_text.specs.Text.{Run, fault_at, line_text, output, printed_run, run_limits, stopped_run, text_of}
 use Rattle.board_runs.proofs.WorkedCases.{of_the_machine, of_the_register, schedule}
 use Rattle.board_c.specs.Kinds.{run_as}
-use Rattle.board_c.specs.Shown.{ShowsOutOfMemory, Shows}
+use Rattle.board_c.specs.Shown.{ShowsOutOfMemory, ShowsRun}
 use Rattle.board_c.specs.declared.runs.kinds.Kind.TheVariants as kind
 use Rattle.board_c.specs.declared.TheConstants.{DONE}
 use Rattle.board_text.specs.Lines.{fault_line}
@@ -24,15 +24,15 @@ abbrev pub one_line : Run
 one_line = printed_run ((65 ∷ []) ∷ [])
 
 -- two bytes are room enough for it
-whole : Shows one_line 2 (65 ∷ 10 ∷ []) DONE 0
+whole : ShowsRun one_line 2 (65 ∷ 10 ∷ []) DONE 0
 whole = record { text = 65 ∷ 10 ∷ []; end = None; of_the_run = inl (refl, refl); front = refl; number = refl; at = refl }
 
 -- one byte isn't
-cut : Shows one_line 1 (65 ∷ []) (code_of WriteFault) 0
+cut : ShowsRun one_line 1 (65 ∷ []) (code_of WriteFault) 0
 cut = record { text = 65 ∷ 10 ∷ []; end = None; of_the_run = inl (refl, refl); front = refl; number = refl; at = refl }
 
 -- its text is not left out
-no_text : Shows one_line 2 [] DONE 0 → ⊥
+no_text : ShowsRun one_line 2 [] DONE 0 → ⊥
 no_text shows = let is = shows-done one_line (λ f ended. cc ended) 2 _ DONE 0 shows refl in cc is.1
 
 -- where memory was refused, the line of that fault is not left out
@@ -48,19 +48,19 @@ abbrev pub one_fault : Run
 one_fault = stopped_run (fault_at BadRecord 5)
 
 -- the number of another record is refused
-another_record : (n : ℕ) (shown : List ℕ) → Shows one_fault n shown (code_of BadRecord) 6 → ⊥
+another_record : (n : ℕ) (shown : List ℕ) → ShowsRun one_fault n shown (code_of BadRecord) 6 → ⊥
 another_record n shown shows = let is = shows-place one_fault (fault_at BadRecord 5) n shown 6 shows refl (λ at. cc at) (λ at. cc at) in cc is
 
 -- an input whose fourth record is a step of the two-copy machine, and nothing that a replay carries out: no replay of it
 -- ends without a fault
-replay_ends_well : (n : ℕ) (shown : List ℕ) (place : ℕ) → Shows (run_as kind.Replay (run_limits 1 10) schedule) n shown DONE place → ⊥
+replay_ends_well : (n : ℕ) (shown : List ℕ) (place : ℕ) → ShowsRun (run_as kind.Replay (run_limits 1 10) schedule) n shown DONE place → ⊥
 replay_ends_well n shown place shows =
     let is = shows-done _ (kind-ends kind.Replay (run_limits 1 10) schedule) n shown DONE place shows refl in
     let ended : Some (fault_at BadRecord 4) ≡ None = sym (ap (λ (r : Run). r.end) of_the_register) ∙ is.0 in
     cc ended
 
 -- and its text is none of a trace that ends without one
-text_of_a_replay : (n place : ℕ) → Shows (run_as kind.Trace (run_limits 1 10) schedule) n (codes "fault,4,BadRecord\n") DONE place → ⊥
+text_of_a_replay : (n place : ℕ) → ShowsRun (run_as kind.Trace (run_limits 1 10) schedule) n (codes "fault,4,BadRecord\n") DONE place → ⊥
 text_of_a_replay n place shows =
     let is = shows-done _ (kind-ends kind.Trace (run_limits 1 10) schedule) n _ DONE place shows refl in
     let first : 102 ≡ 115 = ap (λ (bytes : List ℕ). get_or bytes 0 0) (is.1 ∙ ap output of_the_machine) in

@@ -7,7 +7,7 @@ use Rattle.council_core.specs.declared.refusals.Refusal.TheVariants.{OutOfMemory
 use Rattle.board_text.specs.Text.{Run, fault_at}
 use Rattle.board_text.specs.declared.faults.Fault.{Fault}
 use Rattle.board_runs.proofs.EndFacts.{is_of_input}
-use Rattle.board_c.specs.Shown.{IsLonger, IsTextOf, IsWhole, Shows, end_in}
+use Rattle.board_c.specs.Shown.{IsLonger, IsTextOf, IsWhole, ShowsRun, end_in}
 use Rattle.board_c.specs.Ends.{answer_of, record_of}
 use Rattle.board_c.specs.declared.TheConstants.{DONE}
 
@@ -38,7 +38,7 @@ module _ (run : Run) (ends : (f : Fault) → run.end ≡ Some f → IsTrue (is_o
       absurd (cc (h, at))
   ended-by_itself why text end (inr (same, broken)) other some memory is = memory (sym is ∙ ap answer_of same)
 
-  module _ (n : ℕ) (shown : List ℕ) (answer place : ℕ) (shows : Shows run n shown answer place) where
+  module _ (n : ℕ) (shown : List ℕ) (answer place : ℕ) (shows : ShowsRun run n shown answer place) where
     -- where the text fits, its end is answered
     fits-answer : end_in n shows.text shows.end ≡ shows.end → answer ≡ answer_of shows.end
     fits-answer is = shows.number ∙ ap answer_of is
@@ -70,7 +70,7 @@ module _ (run : Run) (ends : (f : Fault) → run.end ≡ Some f → IsTrue (is_o
     shows-writes write = (shows.text, shows.end, shows.of_the_run, (only-long (code_of WriteFault) refl (lit< tt) (λ same. cc same) write).0)
 
 -- where the answer is the number of the run's own fault, the number of its record is there, too
-pub shows-place : (run : Run) (f : Fault) (n : ℕ) (shown : List ℕ) (place : ℕ) → Shows run n shown f.code place → run.end ≡ Some f → f.code ≢ code_of OutOfMemory → f.code ≢ code_of WriteFault → place ≡ f.place
+pub shows-place : (run : Run) (f : Fault) (n : ℕ) (shown : List ℕ) (place : ℕ) → ShowsRun run n shown f.code place → run.end ≡ Some f → f.code ≢ code_of OutOfMemory → f.code ≢ code_of WriteFault → place ≡ f.place
 shows-place run f n shown place shows ended memory write = by_room (fitting n shows.text shows.end) shows.of_the_run
   where
     by_room : Fitting n shows.text shows.end → IsTextOf run shows.text shows.end → place ≡ f.place

@@ -68,8 +68,8 @@ AcceptsAs old new c accepted = (command : Command) × (given_command c ≡ Ok co
     × (new ≡ record old { ledger = ledger_with old.ledger command }) × (accepted ≡ length new.ledger.journal)
 
 -- the handle's register has accepted the command, and nothing else of the handle has changed
-abbrev pub IsAccepted : BoardRegister → BoardRegister → BoardCommand → ℕ → Type 0
-IsAccepted old new c accepted =
+abbrev pub HasAccepted : BoardRegister → BoardRegister → BoardCommand → ℕ → Type 0
+HasAccepted old new c accepted =
     (s : Sequential) × (register_in new ≡ Some s) × (new ≡ with_register old s) × AcceptsAs old.register s c accepted
 
 -- the register with all accepted commands published

@@ -21,7 +21,7 @@ end_in n text end = if nat_le (length text) n then end else Some (fault_at Write
 
 -- a buffer of n bytes gets a text of the run, or as long a prefix of it as fits; `answer` and
 -- `place` are those of its end
-pub record Shows (run : Run) (n : ℕ) (shown : List ℕ) (answer place : ℕ) : Type 0 where
+pub record ShowsRun (run : Run) (n : ℕ) (shown : List ℕ) (answer place : ℕ) : Type 0 where
   pub text : List ℕ
   pub end : Option Fault
   pub of_the_run : IsTextOf run text end

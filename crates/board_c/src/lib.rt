@@ -22,7 +22,7 @@ pub use register::{
     board_register_check, board_register_command_at, board_register_copy, board_register_counts,
     board_register_entries, board_register_entry_at, board_register_free, board_register_member_at,
     board_register_members, board_register_publish, board_register_published, board_register_read,
-    board_register_sheet, board_register_start,
+    board_register_sheet, board_register_start, board_register_undo,
 };
 pub use runs::{board_replay, board_replay_length, board_trace, board_trace_length};
 pub use script::{BoardItem, board_script};

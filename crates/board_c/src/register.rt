@@ -3,9 +3,12 @@
 //! out. Every other call is one of `council_core::PublishedRegister` and restates its clauses.
 ghost use Rattle.std.specs.Prelude.{◌≡◌, ◌⊎◌, None, MatchOption, length, slice_get};
 ghost use Rattle.council_core.specs.Ledgers.{roll_of, sheet_of};
+ghost use Rattle.council_core.specs.Published.{sequential_taken_back};
+ghost use Rattle.council_core.specs.Refusals.{code_of};
 ghost use Rattle.council_core.specs.Sequential.{published_sheet};
+ghost use Rattle.council_core.specs.declared.refusals.Refusal.TheVariants.{NoRegister};
 ghost use Rattle.c_values.specs.Counts.{ShowsAllCounts};
-ghost use Rattle.board_c.specs.Calls.{Answers, AnswersCopy, IsAccepted, IsCopied, IsRefusedStart, IsStarted};
+ghost use Rattle.board_c.specs.Calls.{Answers, AnswersCopy, HasAccepted, IsCopied, IsRefusedStart, IsStarted};
 ghost use Rattle.board_c.specs.Calls.{OfRegister, AnswersWith, WritesAt, WritesCommand, WritesCounts, all_published};
 ghost use Rattle.board_c.specs.Calls.{opening_entry, reply_number, register_in, reply, row_at};
 ghost use Rattle.board_c.specs.Lending.{with_register};
@@ -74,7 +77,7 @@ pub extern "C" fn board_register_apply(
     accepted: &mut u32,
 ) -> u8
     ensures verdict { Answers (reply register.old command.now) result }
-    ensures accepted { (result ≡ DONE) → IsAccepted register.old register.new command.now accepted.new }
+    ensures accepted { (result ≡ DONE) → HasAccepted register.old register.new command.now accepted.new }
     ensures unchanged { (result ≡ DONE) ⊎ ((register.new ≡ register.old) × (accepted.new ≡ accepted.old)) }
 {
     if register.state() != LIVE {
@@ -357,6 +360,30 @@ pub extern "C" fn board_register_copy(
         }
         Err(why) => why.code(),
     }
+}
+
+/// Takes the register back, in place, to what it was after its first `accepted` commands; if it has
+/// accepted no more, nothing is taken back. Those of its commands that are published stay published,
+/// but no more than the first `published`. Needs no memory.
+///
+/// # Errors
+///
+/// Returns 34, `NoRegister`, if the handle has no register.
+#[unsafe(no_mangle)]
+pub extern "C" fn board_register_undo(
+    register: &mut BoardRegister,
+    accepted: u32,
+    published: u32,
+) -> u8
+    ensures answer { MatchOption (register_in register.old) (result ≡ code_of NoRegister) (λ _. result ≡ DONE) }
+    ensures register { MatchOption (register_in register.old) (register.new ≡ register.old)
+        (λ s. register.new ≡ with_register register.old (sequential_taken_back s accepted published)) }
+{
+    if register.state() != LIVE {
+        return Refusal::NoRegister.code();
+    }
+    register_of(register).undo_to(accepted, published);
+    DONE
 }
 
 /// Frees the register of the handle, if it has one. A second call does nothing.

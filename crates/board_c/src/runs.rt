@@ -1,6 +1,6 @@
 //! A whole replay or trace in one call.
 ghost use Rattle.std.specs.Prelude.{◌≡◌, ◌≢◌, ◌≤◌, length, take, drop};
-ghost use Rattle.board_c.specs.Shown.{IsLonger, IsWhole, Measures, Shows};
+ghost use Rattle.board_c.specs.Shown.{IsLonger, IsWhole, Measures, ShowsRun};
 ghost use Rattle.board_runs.specs.Replays.{run_of};
 ghost use Rattle.board_runs.specs.Traces.{trace_of};
 ghost use Rattle.board_text.specs.Text.{run_limits};
@@ -58,7 +58,7 @@ pub extern "C" fn board_replay(
     written: &mut u64,
     place: &mut u32,
 ) -> u8
-    ensures shows { Shows (run_of (run_limits readers journal) input.now) (length out.old) (take written.new out.new)
+    ensures shows { ShowsRun (run_of (run_limits readers journal) input.now) (length out.old) (take written.new out.new)
         result place.new }
     ensures within { written.new ≤ length out.old }
     ensures rest { drop written.new out.new ≡ drop written.new out.old }
@@ -134,7 +134,7 @@ pub extern "C" fn board_trace(
     written: &mut u64,
     place: &mut u32,
 ) -> u8
-    ensures shows { Shows (trace_of (run_limits readers journal) input.now) (length out.old) (take written.new out.new)
+    ensures shows { ShowsRun (trace_of (run_limits readers journal) input.now) (length out.old) (take written.new out.new)
         result place.new }
     ensures within { written.new ≤ length out.old }
     ensures rest { drop written.new out.new ≡ drop written.new out.old }

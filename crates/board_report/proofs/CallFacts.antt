@@ -1,14 +1,16 @@
--- The call that was answered, and how often it was interrupted.
-use Rattle.std.proofs.Common.{◌≡◌, ◌+◌, ℕ, inl, inr, Result, Ok, Err, arith}
+-- Facts of a result, and how often a run was interrupted.
+use Rattle.std.proofs.Common.{◌≡◌, ◌+◌, ℕ, inl, inr, Result, Ok, Err, subst, sym, arith}
+use Rattle.std.specs.Prelude.{IfOk}
 use Rattle.recording_io.specs.Tapes.{Giving}
 use Rattle.board_text.specs.Inputs.{InterruptedAtMost, IsOfDevice, RetriesAtMost}
 use Rattle.board_text.specs.declared.faults.Fault.{Fault}
-use Rattle.board_report.specs.Calls.{IsAnswered}
-use Rattle.board_report.specs.declared.calls.Invocation.{Invocation}
 
-pub answered-as : (given call : Invocation) → IsAnswered (Ok given) call → given ≡ call
-answered-as given call (inl same) = cc
-answered-as given call (inr lacks) = cc lacks
+module _ {A E : Type 0} (r : Result A E) (x : A) (P : A → Type 0) (same : r ≡ Ok x) where
+  pub if-ok : P x → IfOk r P
+  if-ok p = subst (λ (z : Result A E). IfOk z P) (sym same) p
+
+  pub of-ok : IfOk r P → P x
+  of-ok p = subst (λ (z : Result A E). IfOk z P) same p
 
 -- a run was interrupted once more at most than interruptions are retried
 pub run-interrupted : (count : ℕ) (from to : Giving) (r : Result (Unit {0}) Fault) → RetriesAtMost IsOfDevice count from to r → InterruptedAtMost (count + 1) from to

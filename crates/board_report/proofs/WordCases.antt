@@ -1,11 +1,12 @@
 -- Words that ask for each call, with the limits that they say; and words that ask for none.
-use Rattle.std.proofs.Common.{◌≡◌, ℕ, List, [], ◌∷◌, true, false, Option, Some, codes, String, Global, inl, inr, refl, sym, ap, subst, get_or, arith, rules}
+use Rattle.std.proofs.Common.{◌≡◌, ℕ, Bool, List, [], ◌∷◌, true, false, None, Some, codes, String, Global, inl, inr, refl, ap, get_or, arith, rules}
 use Rattle.clap.proofs.OnLiterals.{clap_on_literals}
-use Rattle.clap.specs.Words.{Row, Text, one_of, subcommand_of, takes}
+use Rattle.clap.specs.Words.{Kinds, Row, Text, fault_of, one_of, subcommand_of}
 use Rattle.std.specs.Option.{option_map_or}
 use Rattle.clap.specs.declared.error.kind.ErrorKind.TheVariants.{DisplayHelp, DisplayVersion}
-use Rattle.board_report.specs.Calls.{AreNotTaken, AskText, Asks, Explains, HasJournal, HasReaders, HaveFault, Says}
-use Rattle.board_report.specs.Commands.{IsTaken, board_app}
+use Rattle.board_report.specs.Calls.{AskForNone, AskText, Asks, Explains, HaveFault, IsCall, IsFound, Says}
+use Rattle.board_report.specs.Commands.{board_app}
+use Rattle.board_report.specs.declared.calls.Invocation.{Invocation}
 use Rattle.board_report.specs.declared.calls.Invocation.TheVariants.{Replay, Serve, Trace}
 use Rattle.board_report.specs.declared.calls.NoCall.TheVariants.{Refused, Shown}
 
@@ -18,21 +19,16 @@ with_limits name = codes "board" ∷ name ∷ codes "--readers" ∷ codes "4" �
 abbrev with_journal : List Text
 with_journal = codes "board" ∷ codes "serve" ∷ codes "--journal" ∷ codes "70" ∷ []
 
+abbrev is_none : Kinds → Bool
+is_none [] = true
+is_none (kind ∷ kinds) = false
+
+abbrev is_faultless : List Text → Bool
+is_faultless words = is_none (fault_of board_app words)
+
 -- what clap finds for the command
 abbrev rows : List Text → List Row
 rows words = option_map_or (λ p. p.1) (subcommand_of board_app words) []
-
-replay_taken : IsTaken (plain (codes "replay")) (codes "replay") (rows (plain (codes "replay")))
-unfolding clap_on_literals
-replay_taken = record { taken = refl; found = refl }
-
-trace_taken : IsTaken (with_limits (codes "trace")) (codes "trace") (rows (with_limits (codes "trace")))
-unfolding clap_on_literals
-trace_taken = record { taken = refl; found = refl }
-
-serve_taken : IsTaken with_journal (codes "serve") (rows with_journal)
-unfolding clap_on_literals
-serve_taken = record { taken = refl; found = refl }
 
 one_reader : one_of (codes "readers") (rows (plain (codes "replay"))) ≡ Some (codes "1")
 unfolding clap_on_literals
@@ -54,15 +50,15 @@ served_journal : one_of (codes "journal") (rows with_journal) ≡ Some (codes "7
 unfolding clap_on_literals
 served_journal = refl
 
-no_command : takes board_app (codes "board" ∷ []) ≡ false
+no_command : is_faultless (codes "board" ∷ []) ≡ false
 unfolding clap_on_literals
 no_command = refl
 
-five_readers : takes board_app (codes "board" ∷ codes "replay" ∷ codes "--readers" ∷ codes "5" ∷ []) ≡ false
+five_readers : is_faultless (codes "board" ∷ codes "replay" ∷ codes "--readers" ∷ codes "5" ∷ []) ≡ false
 unfolding clap_on_literals
 five_readers = refl
 
-serve_with_readers : takes board_app (codes "board" ∷ codes "serve" ∷ codes "--readers" ∷ codes "2" ∷ []) ≡ false
+serve_with_readers : is_faultless (codes "board" ∷ codes "serve" ∷ codes "--readers" ∷ codes "2" ∷ []) ≡ false
 unfolding clap_on_literals
 serve_with_readers = refl
 
@@ -80,15 +76,15 @@ says_million = record { numeral = search rules; small = search rules; same = ref
 
 replay_asked : Asks (plain (codes "replay")) (Replay 1 1000000)
 unfolding clap_on_literals
-replay_asked = (rows (plain (codes "replay")), replay_taken, record { readers_said = says_one; journal_said = says_million })
+replay_asked = (refl, (refl, record { readers_said = says_one; journal_said = says_million }))
 
 trace_asked : Asks (with_limits (codes "trace")) (Trace 4 70)
 unfolding clap_on_literals
-trace_asked = (rows (with_limits (codes "trace")), trace_taken, record { readers_said = says_four; journal_said = says_seventy })
+trace_asked = (refl, (refl, record { readers_said = says_four; journal_said = says_seventy }))
 
 serve_asked : Asks with_journal (Serve 70)
 unfolding clap_on_literals
-serve_asked = (rows with_journal, serve_taken, says_seventy)
+serve_asked = (refl, (refl, says_seventy))
 
 help_asked : AskText (codes "board" ∷ codes "--help" ∷ [])
 unfolding clap_on_literals
@@ -98,9 +94,9 @@ version_asked : AskText (codes "board" ∷ codes "--version" ∷ [])
 unfolding clap_on_literals
 version_asked = (DisplayVersion, inl refl, inr refl)
 
-help_not_taken : AreNotTaken (codes "board" ∷ codes "--help" ∷ [])
+help_asks_for_none : AskForNone (codes "board" ∷ codes "--help" ∷ [])
 unfolding clap_on_literals
-help_not_taken = λ none. cc none
+help_asks_for_none = λ call asks. let none = asks.0 in cc none
 
 -- words that ask for a call ask for no text, and no fault is in them
 pub replay_asks_no_text : AskText (plain (codes "replay")) → ⊥
@@ -109,13 +105,15 @@ replay_asks_no_text h = h.1
 
 pub replay_has_no_fault : HaveFault (plain (codes "replay")) → ⊥
 unfolding clap_on_literals
-replay_has_no_fault h = h.1
+replay_has_no_fault (inl h) = h.1
+replay_has_no_fault (inr h) = h.1 (Replay 1 1000000) replay_asked
 
 -- help is no fault, and a wrong word asks for no text
 help_has_no_fault : HaveFault (codes "board" ∷ codes "--help" ∷ []) → ⊥
 unfolding clap_on_literals
-help_has_no_fault (k, inl same, other) = other (inl same)
-help_has_no_fault (k, inr none, other) = none
+help_has_no_fault (inl (k, inl same, other)) = other (inl same)
+help_has_no_fault (inl (k, inr none, other)) = none
+help_has_no_fault (inr h) = let none = h.0 in cc none
 
 unknown_word_asks_no_text : AskText (codes "board" ∷ codes "replays" ∷ []) → ⊥
 unfolding clap_on_literals
@@ -139,11 +137,11 @@ with_readers number = codes "board" ∷ codes "replay" ∷ codes "--readers" ∷
 abbrev journal_of : Text → List Text
 journal_of number = codes "board" ∷ codes "replay" ∷ codes "--journal" ∷ number ∷ []
 
-readers_taken : (takes board_app (with_readers (codes "0")) ≡ false) × (takes board_app (with_readers (codes "1")) ≡ true) × (takes board_app (with_readers (codes "4")) ≡ true) × (takes board_app (with_readers (codes "x")) ≡ false)
+readers_taken : (is_faultless (with_readers (codes "0")) ≡ false) × (is_faultless (with_readers (codes "1")) ≡ true) × (is_faultless (with_readers (codes "4")) ≡ true) × (is_faultless (with_readers (codes "x")) ≡ false)
 unfolding clap_on_literals
 readers_taken = (refl, refl, refl, refl)
 
-journals_taken : (takes board_app (journal_of (codes "0")) ≡ false) × (takes board_app (journal_of (codes "1")) ≡ true) × (takes board_app (journal_of (codes "1000000")) ≡ true) × (takes board_app (journal_of (codes "1000001")) ≡ false)
+journals_taken : (is_faultless (journal_of (codes "0")) ≡ false) × (is_faultless (journal_of (codes "1")) ≡ true) × (is_faultless (journal_of (codes "1000000")) ≡ true) × (is_faultless (journal_of (codes "1000001")) ≡ false)
 unfolding clap_on_literals
 journals_taken = (refl, refl, refl, refl)
 
@@ -162,52 +160,54 @@ says_nothing : Says 8 [] 0 → ⊥
 says_nothing h = omega (arith, h.numeral.0)
 
 -- words that ask for a call ask for no other, and with no other limits
-abbrev rows_of : Option (Text × List Row) → List Row
-rows_of found = option_map_or (λ p. p.1) found []
-
-abbrev first_letter : Option (Text × List Row) → ℕ
-first_letter found = option_map_or (λ p. get_or p.0 0 0) found 0
+letter : {a b : Text} → a ≡ b → get_or a 0 0 ≡ get_or b 0 0
+letter e = ap (λ (text : Text). get_or text 0 0) e
 
 trace_by_four_alone : Asks (with_limits (codes "trace")) (Trace 3 70) → ⊥
 unfolding clap_on_literals
-trace_by_four_alone (r, taken, limits) =
-    let same : rows (with_limits (codes "trace")) ≡ r = ap rows_of taken.found in
-    let said : Says 8 (codes "4") 3 = subst (λ (r : List Row). HasReaders r 3) (sym same) limits.readers_said in
-    omega (arith, said.same)
+trace_by_four_alone (none, (named, limits)) = let said : Says 8 (codes "4") 3 = limits.readers_said in omega (arith, said.same)
 
 trace_of_seventy_alone : Asks (with_limits (codes "trace")) (Trace 4 71) → ⊥
 unfolding clap_on_literals
-trace_of_seventy_alone (r, taken, limits) =
-    let same : rows (with_limits (codes "trace")) ≡ r = ap rows_of taken.found in
-    let said : Says 32 (codes "70") 71 = subst (λ (r : List Row). HasJournal r 71) (sym same) limits.journal_said in
-    omega (arith, said.same)
+trace_of_seventy_alone (none, (named, limits)) = let said : Says 32 (codes "70") 71 = limits.journal_said in omega (arith, said.same)
 
 serve_of_seventy_alone : Asks with_journal (Serve 71) → ⊥
 unfolding clap_on_literals
-serve_of_seventy_alone (r, taken, said) =
-    let same : rows with_journal ≡ r = ap rows_of taken.found in
-    let says : Says 32 (codes "70") 71 = subst (λ (r : List Row). HasJournal r 71) (sym same) said in
-    omega (arith, says.same)
+serve_of_seventy_alone (none, (named, said)) = let says : Says 32 (codes "70") 71 = said in omega (arith, says.same)
 
 trace_is_no_replay : (readers journal : ℕ) → Asks (with_limits (codes "trace")) (Replay readers journal) → ⊥
 unfolding clap_on_literals
-trace_is_no_replay readers journal (r, taken, limits) = omega (arith, ap first_letter taken.found)
+trace_is_no_replay readers journal (none, (named, limits)) = omega (arith, letter named)
 
 replay_is_no_trace : (readers journal : ℕ) → Asks (plain (codes "replay")) (Trace readers journal) → ⊥
 unfolding clap_on_literals
-replay_is_no_trace readers journal (r, taken, limits) = omega (arith, ap first_letter taken.found)
+replay_is_no_trace readers journal (none, (named, limits)) = omega (arith, letter named)
 
 replay_is_no_serve : (journal : ℕ) → Asks (plain (codes "replay")) (Serve journal) → ⊥
 unfolding clap_on_literals
-replay_is_no_serve journal (r, taken, said) = omega (arith, ap first_letter taken.found)
+replay_is_no_serve journal (none, (named, said)) = omega (arith, letter named)
 
 replay_by_one_alone : Asks (plain (codes "replay")) (Replay 2 1000000) → ⊥
 unfolding clap_on_literals
-replay_by_one_alone (r, taken, limits) =
-    let same : rows (plain (codes "replay")) ≡ r = ap rows_of taken.found in
-    let said : Says 8 (codes "1") 2 = subst (λ (r : List Row). HasReaders r 2) (sym same) limits.readers_said in
-    omega (arith, said.same)
+replay_by_one_alone (none, (named, limits)) = let said : Says 8 (codes "1") 2 = limits.readers_said in omega (arith, said.same)
 
-five_readers_not_taken : (name : Text) (r : List Row) → IsTaken (with_readers (codes "5")) name r → ⊥
+five_readers_ask_for_none : AskForNone (with_readers (codes "5"))
 unfolding clap_on_literals
-five_readers_not_taken name r h = let e = h.taken in cc e
+five_readers_ask_for_none call asks = let none = asks.0 in cc none
+
+no_command_is_no_call : (call : Invocation) → IsCall None call → ⊥
+no_command_is_no_call call is = is
+
+-- a call that is found is one, and where none is found there is none
+one_found : IsFound (Some 4) (Says 8 (codes "4"))
+one_found = says_four
+
+found_another : IsFound (Some 5) (Says 8 (codes "4")) → ⊥
+found_another h = says_another h
+
+none_found : IsFound None (Says 8 (codes "4")) → ⊥
+none_found h = h 4 says_four
+
+-- words without a fault that ask for no call may be refused
+refused_without_a_call : (words : List Text) (text : String Global) → fault_of board_app words ≡ [] → AskForNone words → Explains words (Refused text)
+refused_without_a_call words text none no_call = inr (none, no_call)

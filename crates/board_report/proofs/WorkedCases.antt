@@ -1,5 +1,9 @@
 -- What the definitions of how the program ends take and refuse.
-use Rattle.std.proofs.Common.{◌≡◌, ℕ, List, [], ◌∷◌, ◌++◌, ◌⊎◌, get_or, Option, None, Some, Ok, Err, codes, inl, inr, refl, sym, ap, ◌∙◌, subst, arith}
+use Rattle.std.proofs.Common.{◌≡◌, ℕ, List, [], ◌∷◌, ◌++◌, ◌⊎◌, get_or, Option, None, Some, Ok, Err, codes, inl, inr, refl, sym, ap, ◌∙◌, subst, arith, append-nil}
+use Rattle.std.specs.IoError.{error_kind}
+use Rattle.std.specs.declared.io.Error.{Error}
+use Rattle.std.specs.declared.io.ErrorKind.TheVariants as kind
+use Rattle.recording_io.specs.Tapes.{Giving, given_since}
 use Rattle.council_core.specs.Refusals.{code_of}
 use Rattle.council_core.specs.declared.refusals.Refusal.TheVariants.{BadHeader, BadLimit, BadRecord, OutOfMemory, ReadFault, WriteFault}
 use Rattle.board_text.specs.Lines.{LineBytes}
@@ -11,7 +15,7 @@ use Rattle.board_serve.specs.Serving.{EndsAfter, EndsBroken, EndsInInputFault}
 use Rattle.board_report.proofs.WordCases.{plain, replay_asks_no_text, replay_has_no_fault}
 use Rattle.board_report.specs.declared.calls.Invocation.{Invocation}
 use Rattle.board_report.specs.declared.calls.Invocation.TheVariants.{Replay, Serve, Trace}
-use Rattle.board_report.specs.Programs.{AnswersWords, CallEnds, CallExits, LacksMemory, Written, failure_text, written_streams}
+use Rattle.board_report.specs.Programs.{AnswersWords, CallEnds, CallExits, IsHandled, LacksMemory, LacksWords, Written, failure_text, written_streams}
 
 abbrev one : List ℕ
 one = 7 ∷ []
@@ -64,6 +68,27 @@ replay_refused : AnswersWords (plain (codes "replay")) 2 to_error → ⊥
 replay_refused (inl shown) = let e = shown.0 in cc e
 replay_refused (inr (inl refused)) = replay_has_no_fault refused.2
 replay_refused (inr (inr lacks)) = let e = lacks.status_is in cc e
+
+-- any command line that could be read is carried out or answered: with no call and no answer there is no such end
+module _ (from to : Giving) where
+  carried_out_by_another_status : (words : List (List ℕ)) → IsHandled from to words 3 unwritten → ⊥
+  carried_out_by_another_status words (inl (call, asks, ends)) = ended (ends (given_since from to) (inr ([], sym (append-nil (given_since from to)), λ e. refl)))
+    where
+      ended : CallExits call (given_since from to) 3 unwritten → ⊥
+      ended (inl well) = omega (arith, well.0)
+      ended (inr (inl fault)) = omega (arith, fault.0)
+      ended (inr (inr lacks)) = omega (arith, lacks.status_is)
+  carried_out_by_another_status words (inr (inl shown)) = omega (arith, shown.0)
+  carried_out_by_another_status words (inr (inr (inl refused))) = omega (arith, refused.0)
+  carried_out_by_another_status words (inr (inr (inr lacks))) = omega (arith, lacks.status_is)
+
+-- arguments that could not be read are a want of memory, or no text
+module _ (e : Error) where
+  no_memory_for_words : error_kind e ≡ kind.OutOfMemory → LacksWords e 2 unwritten → ⊥
+  no_memory_for_words is h = omega (arith, (h.memory is).status_is)
+
+  words_of_no_text : error_kind e ≡ kind.InvalidData → LacksWords e 1 unwritten → ⊥
+  words_of_no_text is h = omega (arith, (h.refused (λ lacks. let same : kind.InvalidData ≡ kind.OutOfMemory = sym is ∙ lacks in cc same)).0)
 
 -- what standard error gets
 name_of_a_fault : failure_text (code_of BadRecord) ≡ codes "board: BadRecord" ++ 10 ∷ []

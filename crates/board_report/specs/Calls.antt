@@ -1,15 +1,20 @@
 -- The call that the arguments ask for, and the result of arguments that ask for none.
-use Rattle.std.specs.Prelude.{◌≡◌, ◌≢◌, ℕ, ◌<◌, ◌^◌, ◌⊎◌, ⊤, List, [], Option, Some, None, Result, Ok}
+use Rattle.std.specs.Prelude.{◌≡◌, ℕ, ◌<◌, ◌^◌, ◌⊎◌, ⊤, List, [], Option, Some, None, Result, Ok}
 use Rattle.std.specs.Prelude.{Err, codes}
 use Rattle.std.specs.Str.Parse.{IsNumeral, digits_value, without_leading_plus}
-use Rattle.clap.specs.Words.{IsAmong, Row, Text, fault_of, one_of}
+use Rattle.clap.specs.Words.{IsAmong, Row, Text, fault_of, one_of, subcommand_of}
 use Rattle.clap.specs.declared.error.kind.ErrorKind.{ErrorKind}
 use Rattle.clap.specs.declared.error.kind.ErrorKind.TheVariants.{DisplayHelp, DisplayVersion}
-use Rattle.board_report.specs.Commands.{IsTaken, board_app}
+use Rattle.board_report.specs.Commands.{board_app}
 use Rattle.board_report.specs.declared.calls.Invocation.{Invocation}
 use Rattle.board_report.specs.declared.calls.Invocation.TheVariants.{Replay, Trace, Serve}
 use Rattle.board_report.specs.declared.calls.NoCall.{NoCall}
 use Rattle.board_report.specs.declared.calls.NoCall.TheVariants.{Shown, Refused, OutOfMemory}
+
+-- the value is such a one, or there is none
+abbrev pub IsFound : {A : Type 0} → Option A → (A → Type 0) → Type 0
+IsFound {A} None Is = (x : A) → Is x → ⊥
+IsFound (Some x) Is = Is x
 
 -- the text is a decimal numeral, with or without a leading plus sign, of a number below 2^bits
 pub record Says (bits : ℕ) (text : Text) (n : ℕ) : Type 0 where
@@ -33,35 +38,40 @@ pub record HasLimits (rows : List Row) (readers journal : ℕ) : Type 0 where
   pub readers_said : HasReaders rows readers
   pub journal_said : HasJournal rows journal
 
--- clap accepts the arguments, and they ask for this call
-abbrev pub Asks : List Text → Invocation → Type 0
-Asks words (Replay readers journal) =
-    (rows : List Row) × IsTaken words (codes "replay") rows × HasLimits rows readers journal
-Asks words (Trace readers journal) =
-    (rows : List Row) × IsTaken words (codes "trace") rows × HasLimits rows readers journal
-Asks words (Serve journal) = (rows : List Row) × IsTaken words (codes "serve") rows × HasJournal rows journal
+-- the command that clap found, if any, by its name and its values, is this call
+abbrev pub IsCall : Option (Text × List Row) → Invocation → Type 0
+IsCall None call = ⊥
+IsCall (Some found) (Replay readers journal) = (found.0 ≡ codes "replay") × HasLimits found.1 readers journal
+IsCall (Some found) (Trace readers journal) = (found.0 ≡ codes "trace") × HasLimits found.1 readers journal
+IsCall (Some found) (Serve journal) = (found.0 ≡ codes "serve") × HasJournal found.1 journal
 
--- the result is this call, or OutOfMemory
-abbrev pub IsAnswered : Result Invocation NoCall → Invocation → Type 0
-IsAnswered answer call = (answer ≡ Ok call) ⊎ (answer ≡ Err OutOfMemory)
+-- the arguments ask for this call, without a fault; or for no call
+abbrev pub Asks : List Text → Invocation → Type 0
+Asks words call = (fault_of board_app words ≡ []) × IsCall (subcommand_of board_app words) call
+
+abbrev pub AskForNone : List Text → Type 0
+AskForNone words = (call : Invocation) → Asks words call → ⊥
 
 -- the kind of a text that clap shows on request: the help or the version
 abbrev pub IsShownText : ErrorKind → Type 0
 IsShownText k = (k ≡ DisplayHelp) ⊎ (k ≡ DisplayVersion)
 
--- clap accepts the arguments as no command: they ask for a text, or have a fault
-abbrev pub AreNotTaken : List Text → Type 0
-AreNotTaken words = fault_of board_app words ≢ []
-
 -- one of the kinds that clap's definition gives for the arguments is a text that they ask for
 abbrev pub AskText : List Text → Type 0
 AskText words = (k : ErrorKind) × IsAmong k (fault_of board_app words) × IsShownText k
 
--- one of the kinds that clap's definition gives for the arguments is a fault
+-- one of the kinds that clap's definition gives for the arguments is a fault; or there is none, and
+-- they ask for no call
 abbrev pub HaveFault : List Text → Type 0
-HaveFault words = (k : ErrorKind) × IsAmong k (fault_of board_app words) × (IsShownText k → ⊥)
+HaveFault words = ((k : ErrorKind) × IsAmong k (fault_of board_app words) × (IsShownText k → ⊥))
+    ⊎ ((fault_of board_app words ≡ []) × AskForNone words)
 
 abbrev pub Explains : List Text → NoCall → Type 0
 Explains words (Shown text) = AskText words
 Explains words (Refused text) = HaveFault words
 Explains words OutOfMemory = ⊤
+
+-- the result for any arguments: the call that they ask for, or why there is none
+abbrev pub AnswersLine : List Text → Result Invocation NoCall → Type 0
+AnswersLine words (Ok call) = Asks words call
+AnswersLine words (Err why) = Explains words why

@@ -1,7 +1,7 @@
 -- The arguments that the program accepts, in clap's definitions.
-use Rattle.std.specs.Prelude.{◌≡◌, ℕ, [], List, ◌∷◌, true, Some, pos, codes}
+use Rattle.std.specs.Prelude.{ℕ, [], ◌∷◌, true, Some, pos, codes}
 use Rattle.clap.specs.Simple.{on_top}
-use Rattle.clap.specs.Words.{App, Row, Rule, Text, new_app, new_rule, subcommand_of, takes}
+use Rattle.clap.specs.Words.{App, Rule, Text, new_app, new_rule}
 use Rattle.clap.specs.Words.{with_rule, with_subcommand}
 use Rattle.council_core.specs.declared.limits.TheConstants.{MAX_COMMANDS}
 use Rattle.two_copy_steps.specs.declared.table.TheConstants.{READERS}
@@ -42,8 +42,3 @@ board_app =
     with_subcommand
     (with_subcommand (with_subcommand bare_app (limited_app (codes "replay")).top) (limited_app (codes "trace")).top)
     serve_app.top
-
--- clap accepts the arguments as the command of this name, with these values
-pub record IsTaken (words : List Text) (name : Text) (rows : List Row) : Type 0 where
-  pub taken : takes board_app words ≡ true
-  pub found : subcommand_of board_app words ≡ Some (name, rows)

@@ -1,9 +1,19 @@
 -- The output and the exit status of the program.
-use Rattle.std.specs.Prelude.{◌≡◌, ℕ, ◌⊎◌, ⊤, List, [], ◌∷◌, ◌++◌, Option, Result, Ok, Err, codes}
+use Rattle.std.specs.Prelude.{◌≡◌, ◌≢◌, ℕ, ◌⊎◌, ⊤, List, [], ◌∷◌, ◌++◌, map, Option, Result, Ok, Err, codes}
+use Rattle.std.specs.Prelude.{String}
+use Rattle.std.specs.Global.{Global}
 use Rattle.std.specs.Io.KnownBytes.{Keeps}
+use Rattle.std.specs.IoError.{error_kind}
+use Rattle.std.specs.String.{string_bytes}
+use Rattle.std.specs.Vec.Iter.{into_iter_items}
+use Rattle.std.specs.declared.io.Error.{Error}
+use Rattle.std.specs.declared.io.ErrorKind.TheVariants as kind
+use Rattle.std.specs.declared.vec.IntoIter.{IntoIter}
+use Rattle.clap.specs.Words.{Text}
+use Rattle.recording_io.specs.Tapes.{Giving, OfInput}
 use Rattle.council_core.specs.Refusals.{code_of}
 use Rattle.council_core.specs.declared.refusals.Refusal.TheVariants.{OutOfMemory}
-use Rattle.board_report.specs.Calls.{AskText, HaveFault}
+use Rattle.board_report.specs.Calls.{Asks, AskText, HaveFault}
 use Rattle.board_report.specs.declared.calls.Invocation.{Invocation}
 use Rattle.board_report.specs.declared.calls.Invocation.TheVariants.{Replay, Trace, Serve}
 use Rattle.board_text.specs.Lines.{fault_name}
@@ -56,9 +66,15 @@ AnswersWords words status s =
     ⊎ ((status ≡ 2) × Keeps s.out_old s.out_new × HaveFault words)
     ⊎ LacksMemory status s
 
--- the text on standard error for arguments that are not text
+-- the arguments could not be read: out of memory, or status 2 and a prefix of that text on standard
+-- error
 abbrev pub no_text : List ℕ
 no_text = codes "error: the arguments are not text" ++ 10 ∷ []
+
+pub record LacksWords (error : Error) (status : ℕ) (s : Written) : Type 0 where
+  pub memory : error_kind error ≡ kind.OutOfMemory → LacksMemory status s
+  pub refused : error_kind error ≢ kind.OutOfMemory
+      → (status ≡ 2) × Keeps s.out_old s.out_new × AppendsFront s.err_old s.err_new no_text
 
 -- status 0: the call over these bytes returned Ok; status 1: it returned a fault, and a prefix of
 -- that fault's text went to standard error; or out of memory before the call
@@ -69,3 +85,13 @@ CallExits call bytes status s =
     × ((f : Fault) × CallEnds call bytes s.out_old s.out_new (Err f)
     × AppendsFront s.err_old s.err_new (failure_text f.code)))
     ⊎ LacksMemory status s
+
+-- any command line: it asks for a call, which ran over the input, or it is answered without one
+abbrev pub IsHandled : Giving → Giving → List Text → ℕ → Written → Type 0
+IsHandled from to words status s =
+    ((call : Invocation) × Asks words call × OfInput from to (λ bytes. CallExits call bytes status s))
+    ⊎ AnswersWords words status s
+
+-- the words of a command line
+abbrev pub words_of : IntoIter (String Global) Global → List Text
+words_of args = map string_bytes (into_iter_items args)

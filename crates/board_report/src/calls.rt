@@ -1,17 +1,15 @@
 //! Parses the arguments of the program into a call.
-ghost use Rattle.std.specs.Prelude.{◌≡◌, ℕ, List, IsErrAnd, codes, map};
+ghost use Rattle.std.specs.Prelude.{◌≡◌, List, Some, map};
 ghost use Rattle.std.specs.String.{string_bytes};
-ghost use Rattle.clap.specs.Words.{HasKind, Text, fault_of, found_of, kind_of, rows_of};
+ghost use Rattle.clap.specs.Words.{HasKind, Text, fault_of, found_of, kind_of, rows_of, subcommand_rows_of};
 ghost use Rattle.clap.specs.declared.error.ErrorKind.TheVariants.{OutOfMemory as LackOfMemory};
-ghost use Rattle.board_report.specs.Calls.{AreNotTaken, Asks, Explains, HasJournal, HasLimits, HasReaders, IsAnswered};
+ghost use Rattle.board_report.specs.Calls.{AnswersLine, Explains, HasJournal, HasReaders, IsCall, IsFound};
 ghost use Rattle.board_report.specs.Commands.{board_app};
-ghost use Rattle.board_report.specs.declared.calls.Invocation.TheVariants.{Replay, Trace, Serve};
 ghost use Rattle.board_report.specs.declared.calls.NoCall.TheVariants.{OutOfMemory};
 
 use crate::commands::board_command;
 use clap::error::ErrorKind;
 use clap::{ArgMatches, Error};
-use council_core::MAX_COMMANDS;
 use std::alloc::{AllocError, Global};
 use thiserror::Error;
 
@@ -49,18 +47,18 @@ impl From<AllocError> for NoCall {
     }
 }
 
-// The journal limit that clap found, in commands.
-fn journal_of(matches: &ArgMatches<'_>) -> u32
-    ensures same { (journal : ℕ) → HasJournal (rows_of (found_of matches.now)) journal → result ≡ journal }
+// The journal limit that clap found, in commands, if it found one.
+fn journal_of(matches: &ArgMatches<'_>) -> Option<u32>
+    ensures found { IsFound result (HasJournal (rows_of (found_of matches.now))) }
 {
-    matches.get_one::<u32>("journal").unwrap_or(MAX_COMMANDS)
+    matches.get_one::<u32>("journal")
 }
 
-// The number of readers that clap found.
-fn readers_of(matches: &ArgMatches<'_>) -> u8
-    ensures same { (readers : ℕ) → HasReaders (rows_of (found_of matches.now)) readers → result ≡ readers }
+// The number of readers that clap found, if it found one.
+fn readers_of(matches: &ArgMatches<'_>) -> Option<u8>
+    ensures found { IsFound result (HasReaders (rows_of (found_of matches.now))) }
 {
-    matches.get_one::<u8>("readers").unwrap_or(1)
+    matches.get_one::<u8>("readers")
 }
 
 // The text of clap's error for arguments that gave no call.
@@ -79,29 +77,33 @@ fn explanation(alloc: Global, error: &Error) -> NoCall
 }
 
 impl Invocation {
-    // The call of the command of this name. Clap finds no name other than the three.
-    fn of_command(name: &str, found: &ArgMatches<'_>) -> Invocation
-        ensures replay { (readers journal : ℕ) → name.now ≡ codes "replay"
-            → HasLimits (rows_of (found_of found.now)) readers journal → result ≡ Replay readers journal }
-        ensures trace { (readers journal : ℕ) → name.now ≡ codes "trace"
-            → HasLimits (rows_of (found_of found.now)) readers journal → result ≡ Trace readers journal }
-        ensures serve { (journal : ℕ) → name.now ≡ codes "serve"
-            → HasJournal (rows_of (found_of found.now)) journal → result ≡ Serve journal }
+    // The call of the command of this name, if it is one of the three and has its numbers, as clap
+    // sees to.
+    fn of_command(name: &str, found: &ArgMatches<'_>) -> Option<Invocation>
+        ensures found { IsFound result (IsCall (Some (name.now, rows_of (found_of found.now)))) }
     {
-        let journal = journal_of(found);
+        let journal = journal_of(found)?;
+        if name == "serve" {
+            return Some(Invocation::Serve { journal });
+        }
+        let readers = readers_of(found)?;
         if name == "replay" {
-            return Invocation::Replay {
-                readers: readers_of(found),
-                journal,
-            };
+            return Some(Invocation::Replay { readers, journal });
         }
         if name == "trace" {
-            return Invocation::Trace {
-                readers: readers_of(found),
-                journal,
-            };
+            return Some(Invocation::Trace { readers, journal });
         }
-        Invocation::Serve { journal }
+        None
+    }
+
+    // The call of the command that clap found.
+    fn of_matches(matches: &ArgMatches<'_>) -> Option<Invocation>
+        ensures found { IsFound result (IsCall (subcommand_rows_of matches.now)) }
+    {
+        match matches.subcommand() {
+            Some((name, found)) => Invocation::of_command(name, found),
+            None => None,
+        }
     }
 
     /// The call that these arguments ask for. The first argument is the program's name.
@@ -109,21 +111,19 @@ impl Invocation {
     /// # Errors
     ///
     /// - `NoCall::Shown`: the arguments ask for the help or the version.
-    /// - `NoCall::Refused`: clap finds a fault in the arguments, or the command is missing.
+    /// - `NoCall::Refused`: clap finds a fault in the arguments, or they ask for no call.
     /// - `NoCall::OutOfMemory`: possible for any arguments.
     pub fn from_words(alloc: Global, words: &[String]) -> Result<Invocation, NoCall>
-        ensures asked { (call : Invocation) → Asks (map string_bytes words.now) call → IsAnswered result call }
-        ensures refused { AreNotTaken (map string_bytes words.now)
-            → IsErrAnd result (Explains (map string_bytes words.now)) }
+        ensures answers { AnswersLine (map string_bytes words.now) result }
     {
         let command = board_command(alloc)?;
         let matches = match command.try_get_matches_from(words) {
             Ok(matches) => matches,
             Err(error) => return Err(explanation(alloc, &error)),
         };
-        let Some((name, found)) = matches.subcommand() else {
-            return Err(NoCall::Refused("".to_string(alloc)?));
-        };
-        Ok(Invocation::of_command(name, found))
+        match Invocation::of_matches(&matches) {
+            Some(call) => return Ok(call),
+            None => return Err(NoCall::Refused("".to_string(alloc)?)),
+        }
     }
 }

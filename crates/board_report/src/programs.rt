@@ -1,27 +1,30 @@
 //! Runs the program and returns its exit status.
-ghost use Rattle.std.specs.Prelude.{◌≡◌, ◌≤◌, ◌+◌, ℕ, List, map};
+ghost use Rattle.std.specs.Prelude.{◌≡◌, ◌≤◌, ◌+◌, ℕ, List, map, Option, IfOk, IfErr};
+ghost use Rattle.std.specs.Process.{exit_status};
 ghost use Rattle.recording_io.specs.Tapes.{OfInput};
 ghost use Rattle.std.specs.String.{string_bytes};
 ghost use Rattle.council_core.specs.Refusals.{code_of};
 ghost use Rattle.council_core.specs.declared.refusals.Refusal.TheVariants.{OutOfMemory};
-ghost use Rattle.board_report.specs.Calls.{AreNotTaken, Asks, Explains};
+ghost use Rattle.board_report.specs.Calls.{AskForNone, Asks, Explains};
 ghost use Rattle.board_report.specs.declared.calls.Invocation.{Invocation};
 ghost use Rattle.board_report.specs.declared.calls.Invocation.TheVariants.{Serve};
 ghost use Rattle.board_report.specs.declared.calls.NoCall.TheVariants as none;
-ghost use Rattle.board_report.specs.Programs.{AnswersWords, CallEnds, CallExits, LacksMemory, failure_text};
-ghost use Rattle.board_report.specs.Programs.{no_text, written_streams};
+ghost use Rattle.board_report.specs.Programs.{AnswersWords, CallEnds, CallExits, IsHandled, LacksMemory, LacksWords};
+ghost use Rattle.board_report.specs.Programs.{failure_text, no_text, words_of, written_streams};
 ghost use Rattle.board_text.specs.Inputs.{InterruptedAtMost, IsOfDevice, ReadsWithin, WastesAtMost};
 ghost use Rattle.board_text.specs.Output.{AppendsFront};
 
 use crate::calls::{Invocation, NoCall};
-use crate::streams::Streams;
 use board_runs::{replay, trace};
 use board_serve::{FreeGate, serve};
 use board_text::{Fault, INTERRUPTIONS, Limits, Line, READS, say};
 use council_core::Refusal;
 use recording_io::RecordingReader;
 use std::alloc::Global;
-use std::io::{Read, Write};
+use std::env::Args;
+use std::io;
+use std::io::{ErrorKind, Read, Write};
+use std::process::ExitCode;
 use std::sync::Wait;
 use std::thread::Threads;
 
@@ -109,12 +112,57 @@ fn run<T: Threads + Wait + Sync, R: Read + Drop, W: Write>(
     }
 }
 
-/// Runs the program on its arguments, the first of which is its name, and returns the exit status:
+// Runs the program on its arguments and returns the exit status.
+fn program<T: Threads + Wait + Sync, R: Read + Drop, W: Write, E: Write>(
+    rt: &T,
+    alloc: Global,
+    words: &[String],
+    input: &mut RecordingReader<R>,
+    out: &mut W,
+    err: &mut E,
+) -> u8
+    ensures status { result ≤ 2 }
+    ensures calls { (call : Invocation) → Asks (map string_bytes words.now) call
+        → OfInput input.old input.new (λ bytes. CallExits call bytes result
+        (written_streams (W.contents out.old) (W.contents out.new) (E.contents err.old) (E.contents err.new))) }
+    ensures answers { IsHandled input.old input.new (map string_bytes words.now) result
+        (written_streams (W.contents out.old) (W.contents out.new) (E.contents err.old) (E.contents err.new)) }
+    ensures unread { AskForNone (map string_bytes words.now) → input.new ≡ input.old }
+    ensures asks { input.new.asks ≤ input.old.asks + READS }
+    ensures vain { WastesAtMost 1 input.old input.new }
+    ensures retried { result ≡ 0 → InterruptedAtMost INTERRUPTIONS input.old input.new }
+    ensures interrupted { InterruptedAtMost (INTERRUPTIONS + 1) input.old input.new }
+{
+    let call = match Invocation::from_words(alloc, words) {
+        Ok(call) => call,
+        Err(why) => return explain(&why, out, err),
+    };
+    match run(rt, alloc, call, input, out) {
+        Ok(()) => 0,
+        Err(fault) => fail(err, fault),
+    }
+}
+
+// Writes why the arguments could not be read and returns the status.
+fn fail_for_words<E: Write>(err: &mut E, error: &io::Error) -> u8
+    ensures status { result ≤ 2 }
+    ensures lacks { (out : Option (List ℕ)) → LacksWords error.now result
+        (written_streams out out (E.contents err.old) (E.contents err.new)) }
+{
+    if error.kind() == ErrorKind::OutOfMemory {
+        return fail_for_memory(err);
+    }
+    say(err, b"error: the arguments are not text\n");
+    2
+}
+
+/// The program `board`: runs the call that its arguments ask for, the first of which is the program's
+/// name, on its standard streams. The exit status is:
 ///
-/// - 0 if the call that the arguments ask for returns Ok, and for `--help` and `--version`;
+/// - 0 if the call returns Ok, and for `--help` and `--version`;
 /// - 1 if the call returns a fault, or memory runs out before it; standard error, `err`, then gets
 ///   the line `board: NAME`, or a prefix of it if writing fails;
-/// - 2 if the arguments are refused or the command is missing; `err` then gets the reason.
+/// - 2 if the arguments are refused, ask for no call, or aren't text; `err` then gets the reason.
 ///
 /// If the arguments ask for a call, the text written and the status are those of `replay`, `trace`
 /// or `serve` with the limits of the arguments. If clap finds a fault in them or is asked for the
@@ -126,60 +174,39 @@ fn run<T: Threads + Wait + Sync, R: Read + Drop, W: Write>(
 /// failed. At most `INTERRUPTIONS` interrupted reads are retried.
 ///
 /// ```rust
-/// let (mut stdout, mut stderr) = (rt.stdout(), rt.stderr());
-/// let mut streams = Streams {
-///     input: RecordingReader::new(rt.stdin()),
-///     out: RecordingWriter::new(&mut stdout),
-///     err: RecordingWriter::new(&mut stderr),
-/// };
-/// let status = program(&rt, rt.alloc(), words, &mut streams); // `words` is a `&[String]`
+/// let mut input = RecordingReader::new(rt.stdin());
+/// let code = process(&rt, rt.alloc(), env::args(&rt), &mut input, &mut rt.stdout(), &mut rt.stderr());
 /// ```
-pub fn program<T: Threads + Wait + Sync, R: Read + Drop, W: Write + Drop, E: Write + Drop>(
+pub fn process<T: Threads + Wait + Sync, R: Read + Drop, W: Write, E: Write>(
     rt: &T,
     alloc: Global,
-    words: &[String],
-    streams: &mut Streams<R, W, E>,
-) -> u8
-    ensures status { result ≤ 2 }
-    ensures calls { (call : Invocation) → Asks (map string_bytes words.now) call
-        → OfInput streams.old.input streams.new.input (λ bytes. CallExits call bytes result
-        (written_streams (W.contents streams.old.out) (W.contents streams.new.out) (E.contents streams.old.err)
-        (E.contents streams.new.err))) }
-    ensures refuses { AreNotTaken (map string_bytes words.now)
-        → AnswersWords (map string_bytes words.now) result
-        (written_streams (W.contents streams.old.out) (W.contents streams.new.out) (E.contents streams.old.err)
-        (E.contents streams.new.err)) }
-    ensures unread { AreNotTaken (map string_bytes words.now) → streams.new.input ≡ streams.old.input }
-    ensures asks { streams.new.input.asks ≤ streams.old.input.asks + READS }
-    ensures vain { WastesAtMost 1 streams.old.input streams.new.input }
-    ensures retried { result ≡ 0 → InterruptedAtMost INTERRUPTIONS streams.old.input streams.new.input }
-    ensures interrupted { InterruptedAtMost (INTERRUPTIONS + 1) streams.old.input streams.new.input }
+    args: io::Result<Args>,
+    input: &mut RecordingReader<R>,
+    out: &mut W,
+    err: &mut E,
+) -> ExitCode
+    ensures status { exit_status result ≤ 2 }
+    ensures calls { IfOk args (λ words. (call : Invocation) → Asks (words_of words) call
+        → OfInput input.old input.new (λ bytes. CallExits call bytes (exit_status result)
+        (written_streams (W.contents out.old) (W.contents out.new) (E.contents err.old) (E.contents err.new)))) }
+    ensures answers { IfOk args (λ words. IsHandled input.old input.new (words_of words) (exit_status result)
+        (written_streams (W.contents out.old) (W.contents out.new) (E.contents err.old) (E.contents err.new))) }
+    ensures lacks { IfErr args (λ e. LacksWords e (exit_status result)
+        (written_streams (W.contents out.old) (W.contents out.new) (E.contents err.old) (E.contents err.new))) }
+    ensures unread { IfOk args (λ words. AskForNone (words_of words) → input.new ≡ input.old) }
+    ensures kept { IfErr args (λ e. input.new ≡ input.old) }
+    ensures asks { input.new.asks ≤ input.old.asks + READS }
+    ensures vain { WastesAtMost 1 input.old input.new }
+    ensures retried { exit_status result ≡ 0 → InterruptedAtMost INTERRUPTIONS input.old input.new }
+    ensures interrupted { InterruptedAtMost (INTERRUPTIONS + 1) input.old input.new }
 {
-    let call = match Invocation::from_words(alloc, words) {
-        Ok(call) => call,
-        Err(why) => return explain(&why, &mut streams.out, &mut streams.err),
+    let args = match args {
+        Ok(args) => args,
+        Err(error) => return ExitCode::from(fail_for_words(err, &error)),
     };
-    match run(rt, alloc, call, &mut streams.input, &mut streams.out) {
-        Ok(()) => 0,
-        Err(fault) => fail(&mut streams.err, fault),
-    }
-}
-
-/// Ends a program that ran out of memory while it read its arguments: writes the line of that fault
-/// to `err`, or a prefix of it if writing fails, and returns status 1.
-pub fn words_out_of_memory<E: Write>(err: &mut E) -> u8
-    ensures status { result ≡ 1 }
-    ensures said { AppendsFront (E.contents err.old) (E.contents err.new) (failure_text (code_of OutOfMemory)) }
-{
-    fail_for_memory(err)
-}
-
-/// Ends a program whose arguments are not text: writes the reason to `err`, or a prefix of it if
-/// writing fails, and returns status 2.
-pub fn words_refused<E: Write>(err: &mut E) -> u8
-    ensures status { result ≡ 2 }
-    ensures said { AppendsFront (E.contents err.old) (E.contents err.new) no_text }
-{
-    say(err, b"error: the arguments are not text\n");
-    2
+    let words: Vec<String> = match args.collect(alloc) {
+        Ok(words) => words,
+        Err(_) => return ExitCode::from(fail_for_memory(err)),
+    };
+    ExitCode::from(program(rt, alloc, words.as_slice(), input, out, err))
 }

@@ -1,9 +1,10 @@
 -- The work of the threads, one record more at a time.
-use Rattle.std.proofs.Common.{◌≡◌, ◌+◌, ◌*◌, ◌≤◌, ℕ, List, [], ◌∷◌, ◌++◌, length, map, replicate, take, Ok, Err, Result, refl, sym, ap, subst, ◌∙◌, arith, append_assoc}
+use Rattle.std.proofs.Common.{◌≡◌, ◌+◌, ◌*◌, ◌≤◌, ℕ, List, [], ◌∷◌, ◌++◌, length, map, replicate, take, Some, Ok, Err, Result, inl, inr, refl, sym, ap, subst, ◌∙◌, arith, append_assoc}
 use Rattle.std.proofs.lemmas.List.{append-nil, length-append, map-append, replicate-append-replicate, take_more}
 use Rattle.std.proofs.lemmas.List.Elements.{All-append, All-cons, All-nil}
 use Rattle.std.proofs.lemmas.Grind.{flat_map-append}
-use Rattle.std.specs.Prelude.{⊤}
+use Rattle.std.proofs.lemmas.Option.{slice_get-get_or}
+use Rattle.std.specs.Prelude.{⊤, IfErr}
 use Rattle.council_core.specs.Ledgers.{verdict_of}
 use Rattle.council_core.specs.Sequential.{Sequential, Call, Reply, answered, ordered, read, response_to, replies_of, state_after, submit_response}
 use Rattle.council_core.specs.declared.commands.Command.{Command}
@@ -21,8 +22,9 @@ use Rattle.board_share.proofs.Histories.{longer_none}
 use Rattle.board_share.proofs.Prefixes.{adds_then}
 use Rattle.board_share.specs.Writers.{Publisher}
 use Rattle.council_core.specs.declared.calls.Answer.{Answer}
+use Rattle.board_text.specs.declared.stops.Stop.{Stop}
 use Rattle.board_text.proofs.IndexFacts.{StandsAt, first-more}
-use Rattle.board_serve.specs.Work.{CanAsk, IsRead, IsReadFrom, IsRising, IsWritten, cuts_of, cuts_of_reply, omega_at, omegas, register_of}
+use Rattle.board_serve.specs.Work.{CanAsk, HasWritten, IsHeldUp, IsRead, IsReadFrom, IsRising, IsWritten, StopsAt, StopsWithin, cuts_of, cuts_of_reply, omega_at, omegas, register_of}
 use Rattle.council_core.specs.declared.calls.Order.{Order}
 use Rattle.council_core.specs.declared.calls.Order.TheVariants as order
 use Rattle.board_serve.specs.declared.reader_work.ReaderWork.{ReaderWork}
@@ -170,3 +172,17 @@ answered-more asked i m after next done one =
       count = rw (sheets, more) (omega (arith, old, length-append after.sheets.items (words ∷ []), length-append (take i asked) (m ∷ [])));
       winning = rw (sheets, more) (one.winning ∙ ap (λ (ns : List ℕ). ns ++ one.number ∷ []) done.winning ∙ ap (λ k. omegas (take i asked) after.sheets.items ++ k ∷ []) one.counted ∙ sym (omegas-more (take i asked) after.sheets.items m words old));
     }
+
+-- an order that was not carried out, after those before it were
+pub stopped-at : (s now : Sequential) (orders : List Order) (i : ℕ) (o : Order) (e returned : Stop) → StandsAt orders i o → now ≡ state_after s (map ordered (take i orders)) → returned ≡ e → StopsAt now o e → StopsWithin s orders returned
+stopped-at s now orders i o e returned at is same stops =
+    (i, o, slice_get-get_or orders i o at.within ∙ ap (λ (x : Order). Some x) (sym at.here), subst (λ (z : Sequential × Stop). StopsAt z.0 o z.1) (λ k. (is k, sym same k)) stops)
+
+-- a writer that was stopped was held up
+pub stopped-held : (s : Sequential) (orders : List Order) (e : Stop) → StopsWithin s orders e → IsHeldUp e
+stopped-held s orders e (place, order, here, inl lacks) = inl lacks.0
+stopped-held s orders e (place, order, here, inr closed) = inr closed
+
+pub written-held : (work : WriterWork) (r : Result WriterWork Stop) → HasWritten work r → IfErr r IsHeldUp
+written-held work (Ok done) h = tt
+written-held work (Err e) h = stopped-held (register_of work.writer) work.orders.items e h

@@ -1,12 +1,15 @@
 -- Which faults may end a run of the threads, and after which lines; and what the definitions exclude.
 use Rattle.std.proofs.Common.{◌≡◌, ◌++◌, ◌∙◌, ◌⊎◌, inl, inr, ℕ, true, false, List, [], ◌∷◌, length, map, replicate, Option, Some, None, Ok, Err, refl, sym, ap, arith, ⊎_elim, All, get_or, subst}
 use Rattle.std.proofs.lemmas.List.{length-append}
+use Rattle.std.proofs.lemmas.Option.{none-some}
 use Rattle.std.proofs.lemmas.List.Elements.{recursion_from_All}
 use Rattle.std.specs.Io.KnownBytes.{Appends}
 use Rattle.council_core.specs.Rolls.{IsLegal}
 use Rattle.council_core.specs.Sequential.{Sequential, answered}
 use Rattle.council_core.specs.declared.calls.Answer.{Answer}
 use Rattle.council_core.proofs.WorkedCases.{accepted, published, refused}
+use Rattle.council_core.specs.declared.calls.Order.TheVariants as order
+use Rattle.council_core.specs.declared.commands.Command.TheVariants.{Close, Open}
 use Rattle.council_core.specs.declared.refusals.Refusal.TheVariants as why
 use Rattle.majority_rule.specs.declared.majorities.Majority.TheVariants.{Half}
 use Rattle.board_audits.specs.declared.audits.AuditFault.TheVariants as found
@@ -15,12 +18,13 @@ use Rattle.board_text.specs.Lines.{LineBytes, audit_line}
 use Rattle.board_text.specs.Output.{AppendsFront, WritesRun}
 use Rattle.board_text.specs.Text.{fault_at, output, stopped_run, text_of}
 use Rattle.board_text.specs.declared.faults.Fault.{Fault}
+use Rattle.board_text.specs.declared.stops.Stop.{Stop}
 use Rattle.board_text.specs.declared.stops.Stop.TheVariants as stop
 use Rattle.board_serve.specs.Outcomes.{CanBeFound, IsOutcome, IsServed, omegas_by, sheets_of, winning_of}
 use Rattle.board_serve.specs.Plans.{Planned}
 use Rattle.board_serve.specs.Serving.{Differs, EndsAfter, WritesServeOutput, WritesAllOfServe, audited_run, work_lines}
 use Rattle.board_serve.specs.declared.serving.Served.{Served}
-use Rattle.board_serve.specs.Work.{IsHeldUp, IsRising, cuts_of}
+use Rattle.board_serve.specs.Work.{IsHeldUp, IsRising, StopsAt, StopsWithin, cuts_of}
 use Rattle.board_serve.specs.declared.plan.TheConstants.{SERVED_READERS}
 
 -- the number of readers of `serve`, so that a changed constant is rejected
@@ -93,6 +97,24 @@ found_of_readings = ((λ h. h), (λ h. h), (λ h. h))
 -- the writer isn't held up by a failed read
 not_by_a_read : IsHeldUp stop.ReadFault → ⊥
 not_by_a_read h = ⊎_elim (λ e. cc) (λ e. cc) h
+
+-- memory may run out for a command that the register accepts, and not for one that it refuses or a publication; a gate may close at any
+no_memory_to_open : StopsWithin register (order.Publish ∷ order.Submit (Open 1) ∷ []) stop.OutOfMemory
+no_memory_to_open = (1, order.Submit (Open 1), refl, inl (refl, refl))
+
+no_memory_for_a_refusal : StopsAt register (order.Submit (Close 1)) stop.OutOfMemory → ⊥
+no_memory_for_a_refusal (inl lacks) = let e = lacks.1 in cc e
+no_memory_for_a_refusal (inr closed) = cc closed
+
+no_memory_to_publish : StopsAt register order.Publish stop.OutOfMemory → ⊥
+no_memory_to_publish (inl lacks) = lacks.1
+no_memory_to_publish (inr closed) = cc closed
+
+closed_at_a_publication : StopsAt register order.Publish (stop.Input (fault_at why.GateClosed 0))
+closed_at_a_publication = inr refl
+
+nothing_to_stop_at : (e : Stop) → StopsWithin register [] e → ⊥
+nothing_to_stop_at e stops = none-some stops.1 stops.2
 
 -- the cuts are the numbers that publications answered, also one that published nothing new
 cuts_of_two : cuts_of (accepted 1 ∷ published 1 ∷ refused why.ChairOpen ∷ published 1 ∷ []) ≡ 1 ∷ 1 ∷ []

@@ -1,9 +1,10 @@
 -- The work of the threads of a run.
 use Rattle.std.specs.Prelude.{◌≡◌, ℕ, ◌≤◌, ◌*◌, ◌⊎◌, ◌++◌, List, [], ◌∷◌, length, map, replicate, All}
-use Rattle.std.specs.Prelude.{vec_len, Result, Ok, Err}
+use Rattle.std.specs.Prelude.{slice_get, take, vec_len, Some, Result, Ok, Err}
 use Rattle.std.specs.List.{flat_map}
 use Rattle.std.specs.Vec.{vec_capacity}
 use Rattle.council_core.specs.Coalitions.{omega_of}
+use Rattle.council_core.specs.Ledgers.{verdict_of}
 use Rattle.council_core.specs.Sequential.{Sequential, Reply, answered, ordered, reading, replies_of, state_after}
 use Rattle.council_core.specs.Sheets.{front_of, open_chairs}
 use Rattle.council_core.specs.declared.refusals.Refusal.TheVariants as why
@@ -20,6 +21,7 @@ use Rattle.board_text.specs.Text.{fault_at}
 use Rattle.board_text.specs.declared.stops.Stop.{Stop}
 use Rattle.board_text.specs.declared.stops.Stop.TheVariants as stop
 use Rattle.council_core.specs.declared.calls.Order.{Order}
+use Rattle.council_core.specs.declared.calls.Order.TheVariants as order
 use Rattle.council_core.specs.declared.calls.Answer.TheVariants as answer
 use Rattle.board_serve.specs.declared.reader_work.ReaderWork.{ReaderWork}
 use Rattle.board_serve.specs.declared.threads.AllWork.{AllWork}
@@ -48,6 +50,21 @@ IsClosed e = e ≡ stop.Input (fault_at why.GateClosed 0)
 abbrev pub IsHeldUp : Stop → Type 0
 IsHeldUp e = (e ≡ stop.OutOfMemory) ⊎ IsClosed e
 
+-- the order is a command that the register would accept
+abbrev pub WouldAccept : Sequential → Order → Type 0
+WouldAccept s (order.Submit command) = verdict_of s.ledger command ≡ Ok tt
+WouldAccept s order.Publish = ⊥
+
+-- the error keeps this order from being carried out: no memory for a command that the register would
+-- accept, or a closed gate
+abbrev pub StopsAt : Sequential → Order → Stop → Type 0
+StopsAt s order e = ((e ≡ stop.OutOfMemory) × WouldAccept s order) ⊎ IsClosed e
+
+-- it keeps the first of these orders that wasn't carried out from being so
+abbrev pub StopsWithin : Sequential → List Order → Stop → Type 0
+StopsWithin s orders e = (place : ℕ) × (order : Order) × (slice_get orders place ≡ Some order)
+    × StopsAt (state_after s (map ordered (take place orders))) order e
+
 -- nothing is stored yet, and there is room for each of the orders
 pub record CanWrite (work : WriterWork) : Type 0 where
   pub no_answers : work.answers.items ≡ []
@@ -64,10 +81,10 @@ pub record IsWritten (before : Publisher) (orders : List Order) (done : WriterWo
   pub cuts : done.cuts.items ≡ cuts_of (replies_of (register_of before) (map ordered orders))
   pub table : done.writer.table ≡ before.table
 
--- the orders were carried out, or the writer was stopped by a closed gate or lack of memory
+-- the orders were carried out, or the writer was stopped at one of them
 abbrev pub HasWritten : WriterWork → Result WriterWork Stop → Type 0
 HasWritten work (Ok done) = IsWritten work.writer work.orders.items done
-HasWritten work (Err e) = IsHeldUp e
+HasWritten work (Err e) = StopsWithin (register_of work.writer) work.orders.items e
 
 -- nothing is stored yet, and there is room for each of the readings
 pub record CanAsk (work : ReaderWork) : Type 0 where

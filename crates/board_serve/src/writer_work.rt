@@ -1,9 +1,11 @@
 //! The work of the writer's thread.
-ghost use Rattle.std.specs.Prelude.{◌≡◌, ◌≤◌, ◌<◌, ◌+◌, ◌++◌, vec_len, IfOk, IfErr, OnOk, IsOkUnless};
+ghost use Rattle.std.specs.Prelude.{◌≡◌, ◌≤◌, ◌<◌, ◌+◌, ◌++◌, vec_len, IfOk, IfErr, OnErr, OnOk, IsOkUnless, Ok};
 ghost use Rattle.std.specs.Vec.{vec_capacity};
+ghost use Rattle.council_core.specs.Ledgers.{verdict_of};
 ghost use Rattle.council_core.specs.Sequential.{answered, ordered, response_to, submit};
 ghost use Rattle.board_text.specs.declared.stops.Stop.TheVariants as stop;
-ghost use Rattle.board_serve.specs.Work.{CanWrite, HasWritten, IsHeldUp, IsWritten, cuts_of_reply, register_of};
+ghost use Rattle.board_serve.specs.Work.{CanWrite, HasWritten, IsWritten, StopsAt, StopsWithin, cuts_of_reply};
+ghost use Rattle.board_serve.specs.Work.{register_of};
 
 use crate::gates::{Gate, Place, pass};
 use board_share::Writer;
@@ -27,6 +29,7 @@ fn submit(writer: &mut Writer, command: Command) -> Result<Answer, Stop>
     ensures after { OnOk result (register_of writer.new ≡ (response_to (register_of writer.old) (submit command)).0) }
     ensures table { writer.new.table ≡ writer.old.table }
     ensures memory { IsOkUnless result stop.OutOfMemory }
+    ensures accepted { OnErr result (verdict_of writer.old.ledger command ≡ Ok tt) }
 {
     match writer.submit(command) {
         Ok(accepted) => Ok(Answer::Accepted(accepted)),
@@ -47,7 +50,7 @@ fn carry_out_order<G: Gate, R: Wait>(
     ensures replied { IfOk result (λ a. answered a ≡ (response_to (register_of writer.old) (ordered order)).1) }
     ensures after { OnOk result (register_of writer.new ≡ (response_to (register_of writer.old) (ordered order)).0) }
     ensures table { writer.new.table ≡ writer.old.table }
-    ensures causes { IfErr result IsHeldUp }
+    ensures causes { IfErr result (StopsAt (register_of writer.old) order) }
 {
     match order {
         Order::Submit(command) => return submit(writer, command),
@@ -96,7 +99,7 @@ impl WriterWork {
     fn write_orders<G: Gate, R: Wait>(&mut self, rt: &R, gate: &G) -> Result<(), Stop>
         requires ready { CanWrite self.old }
         ensures written { OnOk result (IsWritten self.old.writer self.old.orders.items self.new) }
-        ensures causes { IfErr result IsHeldUp }
+        ensures causes { IfErr result (StopsWithin (register_of self.old.writer) self.old.orders.items) }
     {
         let mut publications: u32 = 0;
         for order in self.orders.as_slice() {

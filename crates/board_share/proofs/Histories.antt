@@ -95,7 +95,7 @@ pub longer_twice : (h : History) (events more : List Event) → history_with (hi
 longer_twice h events more = ap (λ (l : List Event). let x : History = record h { events = l } in x) (append_assoc h.events events more)
 
 -- a reader in the state is one of the machine
-viewed_back : (stages : List Stage) (records : List (List (List ℕ))) (r : ℕ) (v : ReaderView) → slice_get (reader_views stages records) r ≡ Some v
+pub viewed_back : (stages : List Stage) (records : List (List (List ℕ))) (r : ℕ) (v : ReaderView) → slice_get (reader_views stages records) r ≡ Some v
     → (slice_get stages r ≡ Some v.stage) × (record_at records r ≡ v.readings)
 viewed_back [] records r v e = absurd (none-some v e)
 viewed_back (x ∷ stages) [] zero v e = let s = same_Some _ v e in (ap (λ (w : ReaderView). Some w.stage) s, ap (λ (w : ReaderView). w.readings) s)

@@ -1,49 +1,25 @@
 -- The laws of a rule speak of the board that the rule is of: the history that each gives begins as that board does.
-use Rattle.std.proofs.Common.{◌≡◌, ◌⊎◌, ℕ, List, [], map}
-use lib.ListN.{get_elem?}
-use mathlib.Core.Option.{some}
+use Rattle.std.proofs.Common.{◌≡◌, ℕ, [], map}
 use Rattle.atomic_table.specs.Table as table
-use Rattle.council_core.specs.Ledgers.{IsLedger}
-use Rattle.council_core.specs.Sequential.{AreLegalRecords}
 use Rattle.two_copy_steps.specs.Lawful.{IsPublishable}
 use Rattle.two_copy_steps.specs.Transitions.{machine_at_start}
-use Rattle.two_copy_steps.specs.declared.events.Event.{Event}
-use Rattle.two_copy_steps.specs.Runs.{ReportsReplies}
 use Rattle.two_copy_steps.specs.Auxiliary.{IsApart}
 use Rattle.board_share.specs.declared.views.View.{View}
 use Rattle.board_share.specs.declared.views.ShareStart.{ShareStart}
 use Rattle.board_share.specs.declared.views.History.{History}
-use Rattle.board_share.specs.Histories.{Adds, history_with, is_writers, known_after}
+use Rattle.board_share.specs.Histories.{Adds, is_writers, known_after}
 use Rattle.board_share.specs.Writers.{Publisher, TookTry, publication}
-use Rattle.board_share.specs.Laws.{HistoryLaw, HoldersLaw, IsKnownIn, OneOrderLaw, SeatStartLaw, SharedRecordsLaw, ApartLaw, SharedRepliesLaw, SplitLaw}
+use Rattle.board_share.specs.Laws.{ApartLaw, HistoryLaw, SeatStartLaw, SplitLaw}
 
 module _ (holds : ShareStart → table.State Unit View → Type 0) (begun : ShareStart) (s : table.State Unit View) (held : holds begun s) where
   of_this_board : HistoryLaw holds → (h : History) × (h.begun ≡ begun)
   of_this_board law = let found = law begun s held in (found.0, found.1)
-
-  legal_of_this_board : SharedRecordsLaw holds → (h : History) × (h.begun ≡ begun) × (let k = known_after h in AreLegalRecords begun.register.opening k.writer.state.published k.writer.cuts (map (λ v. v.readings) k.readers))
-  legal_of_this_board law = let found = law begun s held in (found.0, found.1, found.3)
 
   apart_on_this_board : ApartLaw holds → (h : History) × (h.begun ≡ begun) × (let k = known_after h in IsApart k.writer.state (map (λ v. v.stage) k.readers))
   apart_on_this_board law = let found = law begun s held in (found.0, found.1, found.3)
 
   words_on_this_board : HistoryLaw holds → (h : History) × (s.words ≡ (known_after h).words)
   words_on_this_board law = let found = law begun s held in (found.0, found.2.words)
-
-  -- each holder's history is a prefix of one history of this board with such outputs
-  holders_on_this_board : HoldersLaw holds → IsLedger begun.register → (h : History) → IsKnownIn s h
-      → (whole : History) × (whole.begun ≡ begun) × ReportsReplies begun.register begun.readers whole.events × ((rest : List Event) × (whole ≡ history_with h rest))
-  holders_on_this_board law ledger h known =
-      let found = law begun s ledger held in
-      (found.0, found.1, found.2, found.3 h known)
-
-  -- of any two seats, the history of one begins with that of the other
-  one_order_on_this_board : OneOrderLaw holds → (i j : ℕ) (v w : View) → get_elem? s.views i ≡ some v → get_elem? s.views j ≡ some w
-      → ((more : List Event) × (w.history ≡ history_with v.history more)) ⊎ ((more : List Event) × (v.history ≡ history_with w.history more))
-  one_order_on_this_board law i j v w at_i at_j = law begun s held i j v w at_i at_j
-
-  replies_on_this_board : SharedRepliesLaw holds → IsLedger begun.register → (h : History) × (h.begun ≡ begun) × ReportsReplies begun.register begun.readers h.events
-  replies_on_this_board law ledger = let found = law begun s ledger held in (found.0, found.1, found.3)
 
 -- the rule holds of a board's first seat, and still holds when a seat is split
 start_used : (holds : ShareStart → table.State Unit View → Type 0) (first : ShareStart → View) → SeatStartLaw holds first → (begun : ShareStart) → IsPublishable begun.register.opening begun.register.journal

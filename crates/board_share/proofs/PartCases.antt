@@ -1,16 +1,13 @@
 -- What is said of a writer with and without pending commands, computed; and of the steps, seats and histories of a board, part by part.
-use Rattle.std.proofs.Common.{◌≡◌, ◌++◌, ℕ, Bool, true, false, List, [], ◌∷◌, length, replicate, slice_get, Option, Some, None, refl, ap, sym, ◌∙◌}
+use Rattle.std.proofs.Common.{◌≡◌, ◌++◌, ℕ, true, false, List, [], ◌∷◌, length, replicate, slice_get, Option, Some, None, refl, ap, sym, ◌∙◌}
 use Rattle.std.proofs.lemmas.Option.{same_Some}
 use Rattle.std.specs.List.{filter}
 use lib.ListN.{get_elem?}
 use mathlib.Core.Option.{some}
-use Rattle.atomic_table.specs.Seated.{TableId}
 use Rattle.atomic_table.specs.Table as table
-use Rattle.council_core.specs.Ledgers.{IsLedger, Ledger}
 use Rattle.council_core.specs.Rolls.{IsLegal, Opening, sheet}
 use Rattle.council_core.specs.declared.commands.Command.{Command}
 use Rattle.council_core.specs.declared.commands.Command.TheVariants.{Open}
-use Rattle.two_copy_steps.specs.Runs.{KeepsRecordsReported, ReportsReplies}
 use Rattle.two_copy_steps.specs.States.{IsLawfulBoard}
 use Rattle.two_copy_steps.specs.declared.events.Event.{Event}
 use Rattle.two_copy_steps.specs.declared.events.Event.TheVariants.{Submit, Publish, Writer, Reader}
@@ -18,12 +15,11 @@ use Rattle.two_copy_steps.specs.declared.views.WriterView.{WriterView}
 use Rattle.board_share.specs.declared.views.ShareStart.{ShareStart}
 use Rattle.board_share.specs.declared.views.History.{History}
 use Rattle.board_share.specs.declared.views.View.{View}
-use Rattle.board_share.specs.Histories.{Adds, KnowsAfter, first_history, handed_over, history_with, is_readers, is_writers, known_after, machine_of, reported_in}
-use Rattle.board_share.specs.Laws.{SharedOutputsLaw}
+use Rattle.board_share.specs.Histories.{Adds, KnowsAfter, first_history, handed_over, is_readers, is_writers, known_after, machine_of}
 use Rattle.board_share.specs.Readers.{IsLegalSheet, ReaderSeen, TookSteps, known_by, number_of}
-use Rattle.board_share.specs.Rule.{IsAfter, KnowsPrefix, RuleHolds}
+use Rattle.board_share.specs.Rule.{KnowsPrefix, RuleHolds}
 use Rattle.board_share.specs.Seats.{Part, Seated, as_reader}
-use Rattle.board_share.specs.Writers.{IsViewOf, Publisher, TookTries, TookTry, cuts_after, has_pending, look_count, publication_steps, publisher_at, seen_out_after}
+use Rattle.board_share.specs.Writers.{IsViewOf, Publisher, TookTries, TookTry, cuts_after, has_pending, held_by, look_count, publication_steps, publisher_at, seen_out_after}
 use Rattle.board_share.proofs.WorkedCases.{begun, seated, table}
 
 -- events of the writer, and of a reader by its number
@@ -125,27 +121,33 @@ module _ (begun : ShareStart) (s : table.State Unit View) (rule : RuleHolds begu
   all_readers : length (known_after rule.history).readers ≡ begun.readers
   all_readers = rule.count
 
--- a writer's seat has its opening and its history
+-- a writer's seat has its opening, published commands, cuts and history, and its first commands
 module _ (b : Publisher) (v : View) (is : IsViewOf b v) where
-  writer_of_seat : v.writer ≡ Some (b.ledger.opening, is.held)
+  writer_of_seat : v.writer ≡ Some (b.ledger.opening, held_by v)
   writer_of_seat = is.writes
 
-  history_of_seat : v.history ≡ b.history
-  history_of_seat = is.history
+  staged_accepted : b.ledger.journal ≡ (held_by v).state.staged ++ is.staged.0
+  staged_accepted = is.staged.1
 
--- the state of a writer in a seat has that seat's view; a seat without a writer, with other members or with another history has not
-view_of_seat : (id : TableId) (ledger : Ledger) (v : View) (held : WriterView) → v.writer ≡ Some (ledger.opening, held) → IsViewOf (publisher_at id ledger v) v
-view_of_seat id ledger v held writes = record { held = held; writes = writes; history = refl }
+  view_of_seat : b ≡ publisher_at b.table b.ledger v
+  view_of_seat = is.same
 
+  cuts_of_seat : b.cuts ≡ (held_by v).cuts
+  cuts_of_seat = ap (λ (x : Publisher). x.cuts) is.same
+
+-- a seat without a writer, with other members, with another history or with other cuts is not its
 no_writer_seated : (b : Publisher) (v : View) → v.writer ≡ None → IsViewOf b v → ⊥
 no_writer_seated b v none is = cc (none, is.writes)
 
 other_members_seated : (b : Publisher) (v : View) (opening : Opening) (held : WriterView) → v.writer ≡ Some (opening, held) → (opening ≡ b.ledger.opening → ⊥) → IsViewOf b v → ⊥
 other_members_seated b v opening held writes other is =
-    other (ap (λ (p : Opening × WriterView). p.0) (same_Some (opening, held) (b.ledger.opening, is.held) (sym writes ∙ is.writes)))
+    other (ap (λ (p : Opening × WriterView). p.0) (same_Some (opening, held) (b.ledger.opening, held_by v) (sym writes ∙ is.writes)))
 
 other_history_seated : (b : Publisher) (v : View) → (v.history ≡ b.history → ⊥) → IsViewOf b v → ⊥
-other_history_seated b v other is = other is.history
+other_history_seated b v other is = other (sym (ap (λ (x : Publisher). x.history) is.same))
+
+other_cuts_seated : (b : Publisher) (v : View) → (b.cuts ≡ (held_by v).cuts → ⊥) → IsViewOf b v → ⊥
+other_cuts_seated b v other is = other (cuts_of_seat b v is)
 
 -- a publication after one that was abandoned: both are tries, and the register between them is the same
 module _ (before after : Publisher) (took : TookTries 1 before after) where
@@ -157,11 +159,3 @@ module _ (before after : Publisher) (took : TookTries 1 before after) where
 
   then_published : TookTry (publication_steps took.0.seen_out) took.0 after
   then_published = took.3
-
--- the outputs of every history are the register's replies, and the readings in them the records
-module _ (law : SharedOutputsLaw) (h : History) (ledger : IsLedger h.begun.register) where
-  replies_of_history : ReportsReplies h.begun.register h.begun.readers h.events
-  replies_of_history = (law h ledger).0
-
-  records_of_history : KeepsRecordsReported h.begun.register h.begun.readers h.events (reported_in h)
-  records_of_history = (law h ledger).1

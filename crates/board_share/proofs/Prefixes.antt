@@ -1,5 +1,5 @@
 -- The histories of all seats after a step of one.
-use Rattle.std.proofs.Common.{◌≡◌, ◌≢◌, ℕ, suc, Bool, List, [], ◌∷◌, ◌++◌, set, Some, refl, sym, ap, ◌∙◌, subst, ⊎_elim, inl, inr, ◌⊎◌}
+use Rattle.std.proofs.Common.{◌≡◌, ◌≢◌, ℕ, suc, Bool, List, [], ◌++◌, set, Some, refl, sym, ap, ◌∙◌, subst, ⊎_elim}
 use Rattle.std.specs.List.{filter}
 use Rattle.std.proofs.lemmas.List.Elements.{filter-append}
 use mathlib.Core.Option.{some}
@@ -12,11 +12,7 @@ use Rattle.board_share.specs.declared.views.History.{History}
 use Rattle.board_share.specs.declared.views.View.{View}
 use Rattle.board_share.specs.Histories.{history_with, is_writers, is_readers, Adds}
 use Rattle.board_share.specs.Seats.{Part, as_reader}
-use Rattle.atomic_table.specs.Table as table
-use Rattle.board_share.specs.Laws.{IsKnownIn, SeatsReader, SeatsWriter}
-use Rattle.board_share.specs.Readers.{ReaderSeen, seat_view}
-use Rattle.board_share.specs.Rule.{IsAfter, KnowsPrefix}
-use Rattle.board_share.specs.Writers.{Publisher}
+use Rattle.board_share.specs.Rule.{KnowsPrefix}
 use Rattle.board_share.proofs.Histories.{longer_none, longer_twice}
 
 -- none of these events belongs to an actor of the seat
@@ -72,35 +68,3 @@ adds_then own a b c first second x y =
 
 pub adds_none : (own : Event → Bool) (h : History) → Adds own [] h h
 adds_none own h = record { events = []; longer_by = sym (longer_none h); own_are = refl }
-
--- of two prefixes of one list one is a prefix of the other
-one_is_prefix : (xs ys a b : List Event) → xs ++ a ≡ ys ++ b → ((more : List Event) × (ys ≡ xs ++ more)) ⊎ ((more : List Event) × (xs ≡ ys ++ more))
-one_is_prefix [] ys a b e = inl (ys, refl)
-one_is_prefix (x ∷ xs) [] a b e = inr (x ∷ xs, refl)
-one_is_prefix (x ∷ xs) (y ∷ ys) a b e =
-    let head : x ≡ y = cc in
-    ⊎_elim (λ t. inl (t.0, (λ i. sym head i ∷ t.1 i))) (λ t. inr (t.0, (λ i. head i ∷ t.1 i))) (one_is_prefix xs ys a b (ap rest_of_list e))
-  where
-    rest_of_list : List Event → List Event
-    rest_of_list [] = []
-    rest_of_list (z ∷ zs) = zs
-
-pub prefix_or_prefix : (v w : View) (whole : History) → KnowsPrefix v whole → KnowsPrefix w whole
-    → ((more : List Event) × (w.history ≡ history_with v.history more)) ⊎ ((more : List Event) × (v.history ≡ history_with w.history more))
-prefix_or_prefix v w whole f g =
-    let same : history_with v.history f.rest ≡ history_with w.history g.rest = sym f.whole_is ∙ g.whole_is in
-    let begun : v.history.begun ≡ w.history.begun = ap (λ (h : History). h.begun) same in
-    ⊎_elim
-    (λ (t : (more : List Event) × (w.history.events ≡ v.history.events ++ more)). inl (t.0, (λ i. record { begun = sym begun i; events = t.1 i })))
-    (λ (t : (more : List Event) × (v.history.events ≡ w.history.events ++ more)). inr (t.0, (λ i. record { begun = begun i; events = t.1 i })))
-    (one_is_prefix v.history.events w.history.events f.rest g.rest (ap (λ (h : History). h.events) same))
-
--- the history that a reader or the writer knows is a prefix of the whole one
-pub known_prefix : (s : table.State Unit View) (whole : History) → IsAfter whole s → (h : History) → IsKnownIn s h → (rest : List Event) × (whole ≡ history_with h rest)
-known_prefix s whole after h known =
-    let begins : (v : View) → KnowsPrefix v whole → v.history ≡ h → (rest : List Event) × (whole ≡ history_with h rest) =
-    λ v k same. (k.rest, k.whole_is ∙ ap (λ (x : History). history_with x k.rest) same) in
-    ⊎_elim
-    (λ (t : (p : ReaderSeen) × SeatsReader s p × (p.history ≡ h)). begins (seat_view t.0) (after.prefixes t.1.0 (seat_view t.0) t.1.1) t.2)
-    (λ (t : (b : Publisher) × SeatsWriter s b × (b.history ≡ h)). begins t.1.1 (after.prefixes t.1.0 t.1.1 t.1.2) (t.1.3.history ∙ t.2))
-    known

@@ -10,7 +10,7 @@ use Rattle.board_share.specs.declared.views.History.{History}
 use Rattle.board_share.specs.declared.views.View.{View}
 use Rattle.board_share.specs.Histories.{machine_of, known_after}
 use Rattle.board_share.specs.Seats.{as_writer, as_reader, Seated}
-use Rattle.board_share.specs.Rule.{KnowsPrefix, RuleHolds, with_opening}
+use Rattle.board_share.specs.Rule.{HoldsBy, KnowsPrefix, RuleHolds, with_opening}
 
 pub record RuleHoldsByState (begun : ShareStart) (s : table.State Unit View) : Type 0 where
   pub history : History
@@ -65,3 +65,12 @@ module _ (begun : ShareStart) (s : table.State Unit View) where
         lawful = subst (IsLawfulBoard begun.register.opening) e k.lawful;
         count = ap (λ (x : State). length x.readers) (sym e) ∙ k.count;
       }
+
+  -- both are by one history
+  pub same_history : (rule : RuleHolds begun s) → (by_state rule).history ≡ rule.history
+  unfolding by_state
+  same_history rule = refl
+
+  pub by_its_history : (k : RuleHoldsByState begun s) → HoldsBy begun k.history s
+  unfolding by_history
+  by_its_history k = (by_history k, refl)

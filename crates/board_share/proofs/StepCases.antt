@@ -1,5 +1,5 @@
 -- What a step, a publication that may begin and one that was abandoned say, part by part; and the seats of readers and writers.
-use Rattle.std.proofs.Common.{◌≡◌, ◌++◌, ◌∙◌, ℕ, suc, Bool, true, false, List, [], ◌∷◌, length, slice_get, Option, Some, None, refl, sym, subst, arith, true≢false}
+use Rattle.std.proofs.Common.{◌≡◌, ◌∙◌, ℕ, suc, Bool, true, false, List, [], ◌∷◌, length, Some, None, refl, sym, subst, arith, true≢false}
 use lib.ListN.{get_elem?}
 use mathlib.Core.Option.{some}
 use Rattle.atomic_table.specs.Table as table
@@ -8,7 +8,6 @@ use Rattle.council_core.specs.Ledgers.{Ledger}
 use Rattle.council_core.specs.Rolls.{Opening}
 use Rattle.council_core.specs.declared.commands.Command.{Command}
 use Rattle.council_core.specs.declared.commands.Command.TheVariants.{Close}
-use Rattle.two_copy_steps.specs.Actions.{reader_action}
 use Rattle.two_copy_steps.specs.Lawful.{IsPrefix}
 use Rattle.two_copy_steps.specs.States.{IsKnown}
 use Rattle.two_copy_steps.specs.declared.events.Note.TheVariants.{Busy, Moved}
@@ -23,7 +22,7 @@ use Rattle.board_share.specs.Laws.{SeatsReader, SeatsWriter}
 use Rattle.board_share.specs.Readers.{ReaderSeen, seat_view}
 use Rattle.board_share.specs.Seats.{seat_of_reader}
 use Rattle.board_share.specs.Steps.{IsStepOn, WriterActed, bare_seat, with_writer, write_then}
-use Rattle.board_share.specs.Writers.{GaveUp, MayPublish, Publisher}
+use Rattle.board_share.specs.Writers.{GaveUp, MayPublish, Publisher, publisher_at}
 
 -- the first step of a reader at rest: it arrives, its view is known, and its output is that it moved
 abbrev at_rest : ReaderView
@@ -88,5 +87,5 @@ module _ (s : table.State Unit View) where
   reader_among : (p : ReaderSeen) → SeatsReader s p → (id : ℕ) × (get_elem? s.views id ≡ some (seat_view p))
   reader_among p seated = (seated.0, seated.1)
 
-  writer_among : (b : Publisher) → SeatsWriter s b → (id : ℕ) × (v : View) × (get_elem? s.views id ≡ some v) × (v.history ≡ b.history)
-  writer_among b seated = (seated.0, seated.1, seated.2, seated.3.history)
+  writer_among : (b : Publisher) → SeatsWriter s b → (id : ℕ) × (v : View) × (get_elem? s.views id ≡ some v) × (b ≡ publisher_at b.table b.ledger v)
+  writer_among b seated = (seated.0, seated.1, seated.2, seated.3.same)

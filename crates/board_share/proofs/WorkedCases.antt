@@ -21,7 +21,7 @@ use Rattle.board_share.specs.Rule.{first_reader, opening_view}
 use Rattle.board_share.specs.Seats.{Part, seat_of_reader}
 use Rattle.board_share.specs.Writers.{look_count, publication, publication_steps}
 
-abbrev one_member : Opening
+abbrev pub one_member : Opening
 one_member = (65 ∷ 65 ∷ 65 ∷ [], 10) ∷ []
 
 -- a chair is opened, and the member moves into it
@@ -29,13 +29,13 @@ abbrev pub seated : List Command
 seated = Open 1 ∷ Move (65 ∷ 65 ∷ 65 ∷ []) (Some 1) ∷ []
 
 -- the sheets after none, one and both of the commands
-abbrev none_done : List ℕ
+abbrev pub none_done : List ℕ
 none_done = replicate 32 0 ++ 10 ∷ 0 ∷ []
 
-abbrev one_done : List ℕ
+abbrev pub one_done : List ℕ
 one_done = 1 ∷ replicate 31 0 ++ 10 ∷ 1 ∷ []
 
-abbrev both_done : List ℕ
+abbrev pub both_done : List ℕ
 both_done = 11 ∷ replicate 31 0 ++ 10 ∷ 2 ∷ []
 
 -- a board over that register, with one reader
@@ -56,7 +56,7 @@ looks_at_two = refl
 
 -- the output of a publication's last step is the number of published commands, and that of a
 -- reading is the sheet read
-abbrev after_events : List Event → History
+abbrev pub after_events : List Event → History
 after_events events = history_with (first_history begun) events
 
 pub reports_published : last_reported (after_events (Submit (Open 1) ∷ Publish ∷ [] ++ replicate 35 Writer)) ≡ Some (Published 1)
@@ -81,7 +81,7 @@ abbrev pub table : TableId
 table = record { words = 70; slots = 0; views_name = 0; atom = 0; block = 0; offset = 0; slot_names = [] }
 
 -- the front of the last reading, or 0 before the first
-abbrev having_read : List (List ℕ) → ReaderSeen
+abbrev pub having_read : List (List ℕ) → ReaderSeen
 having_read readings = record (new_reader table begun 0) { readings = readings }
 
 pub front_of_last : last_front_of (having_read (none_done ∷ both_done ∷ [])) ≡ 2

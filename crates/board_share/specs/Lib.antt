@@ -7,3 +7,4 @@ pub mod Writers
 pub mod Openings
 pub mod Analysts
 pub mod Laws
+pub mod Headline

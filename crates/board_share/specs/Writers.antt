@@ -209,11 +209,12 @@ publisher_at table ledger v = record {
   history = v.history;
 }
 
--- a view is that of this writer's seat
+-- a view is that of this writer's seat, and the commands staged there are the first that the writer
+-- has accepted
 pub record IsViewOf (b : Publisher) (v : View) : Type 0 where
-  pub held : WriterView
-  pub writes : v.writer ≡ Some (b.ledger.opening, held)
-  pub history : v.history ≡ b.history
+  pub writes : v.writer ≡ Some (b.ledger.opening, held_by v)
+  pub staged : IsPrefix (held_by v).state.staged b.ledger.journal
+  pub same : b ≡ publisher_at b.table b.ledger v
 
 -- more commands are accepted than published
 abbrev pub has_pending : Publisher → Bool

@@ -14,7 +14,7 @@ mod writers;
 
 pub use analysts::Analyst;
 pub use board_audits::{AuditFault, audit, audit_fault_laws, audit_law};
-pub use laws::{order_laws, rule_laws, seat_laws};
+pub use laws::{headline_law, rule_laws, seat_laws};
 pub use opening::start;
 pub use readers::{Reader, Reading};
 pub use rule::{Board, TwoCopies};

@@ -2,6 +2,7 @@
 use crate::devices::WHOLE;
 use crate::runs::run;
 use std::alloc::{AllocError, Global};
+use std::process::ExitCode;
 use std::test::Fail;
 
 // The first records, and then one record `times` times.
@@ -42,14 +43,15 @@ const LONGEST: [(&str, &str, &str, usize, usize); 3] = [
 
 // Catches a call on the longest input that runs out of memory, of stack or of a test's time: the
 // proofs bound none of them. Catches a `board serve` whose gate closes: no clause says that
-// `program` uses the gate that never does.
+// `process` uses the gate that never does.
 #[test]
 fn longest_inputs(rt: HostRuntime) -> Result<(), Fail> {
     for (command, head, records, times, count) in LONGEST {
         let mut text = repeated(rt.alloc(), head, records, times)?;
         assert_eq!(rt; text.len(), 4_194_304);
         let ended = run(&rt, rt.alloc(), &[command], text.as_slice(), WHOLE, WHOLE)?;
-        assert!(rt; (ended.status, ended.out.len()) == (0, count), "{command}");
+        let done = (ended.code == ExitCode::SUCCESS, ended.out.len());
+        assert!(rt; done == (true, count), "{command}");
         text.push(b'\n')?;
         let ended = run(&rt, rt.alloc(), &[command], text.as_slice(), WHOLE, WHOLE)?;
         assert!(rt;

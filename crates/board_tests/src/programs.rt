@@ -1,9 +1,9 @@
 //! Tests of the program's calls, words, statuses and streams.
 use crate::devices::{Device, WHOLE};
-use crate::runs::{HALTING, run};
-use board_report::{words_out_of_memory, words_refused};
+use crate::runs::{run, run_args};
 use fixtures::{BLOCKING_READER, THREE_CHAIRS, THREE_PUBLICATIONS, WorkedRun};
-use std::sync::atomic::AtomicU64;
+use std::io;
+use std::io::ErrorKind;
 use std::test::Fail;
 
 // A run of `serve` with a refused command, no publication, and a reading of reader 2 alone.
@@ -37,11 +37,6 @@ fn worked_runs(rt: HostRuntime) -> Result<(), Fail> {
     Ok(())
 }
 
-// Whether the text begins with this one, and is empty if this one is.
-fn begins(text: &[u8], with: &str) -> bool {
-    text.starts_with(with.as_bytes()) && text.is_empty() == with.is_empty()
-}
-
 // Arguments that ask for no call, the status, and how standard output and standard error begin.
 const WORDS: [(&[&str], u8, &str, &str); 5] = [
     (&["--help"], 0, "A register of the voting power", ""),
@@ -66,26 +61,26 @@ const WORDS: [(&[&str], u8, &str, &str); 5] = [
 fn words_that_ask_for_no_call(rt: HostRuntime) -> Result<(), Fail> {
     for (words, status, out, err) in WORDS {
         let ended = run(&rt, rt.alloc(), words, b"", WHOLE, WHOLE)?;
-        let shown = begins(ended.out.as_slice(), out) && begins(ended.err.as_slice(), err);
-        assert!(rt; (ended.status, shown) == (status, true), "{words:?}");
+        assert!(rt; ended.begins(status, out, err), "{words:?}");
     }
     Ok(())
 }
 
-// Catches a missing or cut line where the arguments can't be read: the contracts promise a prefix.
+// Catches a missing or cut line where the arguments can't be read, of which the contracts promise a
+// prefix, and a read of the input.
 #[test]
 fn words_that_could_not_be_read(rt: HostRuntime) -> Result<(), Fail> {
-    let calls = [AtomicU64::new(0), AtomicU64::new(0)];
-    let mut err = Device::new(rt.alloc(), HALTING, &calls[0], b"");
-    assert_eq!(rt; words_out_of_memory(&mut err), 1);
-    assert!(rt; err.into_taken().as_slice() == "board: OutOfMemory\n".as_bytes());
-    let mut err = Device::new(rt.alloc(), HALTING, &calls[1], b"");
-    assert_eq!(rt; words_refused(&mut err), 2);
-    assert!(rt;
-        begins(
-            err.into_taken().as_slice(),
-            "error: the arguments are not text\n"
-        )
-    );
+    for (kind, status, text) in [
+        (ErrorKind::OutOfMemory, 1, "board: OutOfMemory\n"),
+        (
+            ErrorKind::InvalidData,
+            2,
+            "error: the arguments are not text\n",
+        ),
+    ] {
+        let args = Err(io::Error::from(kind));
+        let ended = run_args(&rt, rt.alloc(), args, b"", WHOLE, WHOLE)?;
+        assert!(rt; ended.is(status, "", text) && ended.reads == 0, "{text}");
+    }
     Ok(())
 }

@@ -1,7 +1,10 @@
 //! Runs the program over devices in memory.
 use crate::devices::{BYTE, Device, INTERRUPTED, Plan};
-use board_report::{RecordingReader, Streams, program};
+use board_report::{RecordingReader, process};
 use std::alloc::{AllocError, Global};
+use std::env::Args;
+use std::io;
+use std::process::ExitCode;
 use std::sync::Wait;
 use std::sync::atomic::{AtomicU64, Ordering};
 use std::thread::Threads;
@@ -9,10 +12,10 @@ use std::thread::Threads;
 /// The plan of standard error: all interruptions that are retried, and single bytes.
 pub(crate) const HALTING: Plan<'static> = &[(1_000, INTERRUPTED), (u64::MAX, BYTE)];
 
-/// The status of a run, the bytes that its outputs accepted, and the number of its reads.
+/// The exit code of a run, the bytes that its outputs accepted, and the number of its reads.
 #[derive(Drop)]
 pub(crate) struct Ended {
-    pub(crate) status: u8,
+    pub(crate) code: ExitCode,
     pub(crate) out: Vec<u8>,
     pub(crate) err: Vec<u8>,
     pub(crate) reads: u64,
@@ -21,10 +24,22 @@ pub(crate) struct Ended {
 impl Ended {
     /// Whether the run has this status and wrote these texts.
     pub(crate) fn is(&self, status: u8, out: &str, err: &str) -> bool {
-        self.status == status
+        self.code == ExitCode::from(status)
             && self.out.as_slice() == out.as_bytes()
             && self.err.as_slice() == err.as_bytes()
     }
+
+    /// Whether the run has this status, and each text begins with this one, and is empty if this one
+    /// is.
+    pub(crate) fn begins(&self, status: u8, out: &str, err: &str) -> bool {
+        self.code == ExitCode::from(status)
+            && begins(self.out.as_slice(), out)
+            && begins(self.err.as_slice(), err)
+    }
+}
+
+fn begins(text: &[u8], with: &str) -> bool {
+    text.starts_with(with.as_bytes()) && text.is_empty() == with.is_empty()
 }
 
 // The program's arguments, after its name.
@@ -47,17 +62,26 @@ pub(crate) fn run<T: Threads + Wait + Sync>(
     reads: Plan<'_>,
     writes: Plan<'_>,
 ) -> Result<Ended, AllocError> {
-    let words = words_of(alloc, texts)?;
+    let args = Ok(words_of(alloc, texts)?.into_iter());
+    run_args(rt, alloc, args, input, reads, writes)
+}
+
+/// The same with these arguments, or the error that kept them from being read.
+pub(crate) fn run_args<T: Threads + Wait + Sync>(
+    rt: &T,
+    alloc: Global,
+    args: io::Result<Args>,
+    input: &[u8],
+    reads: Plan<'_>,
+    writes: Plan<'_>,
+) -> Result<Ended, AllocError> {
     let (calls, others) = (AtomicU64::new(0), [AtomicU64::new(0), AtomicU64::new(0)]);
-    let mut streams = Streams {
-        input: RecordingReader::new(Device::new(alloc, reads, &calls, input)),
-        out: Device::new(alloc, writes, &others[0], b""),
-        err: Device::new(alloc, HALTING, &others[1], b""),
-    };
-    let status = program(rt, alloc, words.as_slice(), &mut streams);
-    let Streams { out, err, .. } = streams;
+    let mut reader = RecordingReader::new(Device::new(alloc, reads, &calls, input));
+    let mut out = Device::new(alloc, writes, &others[0], b"");
+    let mut err = Device::new(alloc, HALTING, &others[1], b"");
+    let code = process(rt, alloc, args, &mut reader, &mut out, &mut err);
     Ok(Ended {
-        status,
+        code,
         out: out.into_taken(),
         err: err.into_taken(),
         reads: calls.load(Ordering::SeqCst),

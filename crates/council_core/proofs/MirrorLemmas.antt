@@ -1,7 +1,8 @@
 -- What a register keeps stays what the roll says.
-use Rattle.std.proofs.Common.{◌≡◌, ℕ, ◌+◌, ◌^◌, ◌<◌, ◌≤◌, ◌==◌, Bool, true, false, cond, not, ◌&&◌, ◌||◌, List, [], ◌∷◌, ◌++◌, length, sum_by, filter, Option, None, Some, IfSome, Ok, is_ok, sym, ◌∙◌, ap, subst, refl, arith, true≢false, slice_index, slice_set, length-append}
+use Rattle.std.proofs.Common.{◌≡◌, ℕ, ◌+◌, ◌^◌, ◌<◌, ◌≤◌, ◌==◌, Bool, true, false, cond, not, ◌&&◌, ◌||◌, List, [], ◌∷◌, ◌++◌, length, sum_by, filter, Option, None, Some, IfSome, is_ok, sym, ◌∙◌, ap, subst, refl, arith, true≢false, slice_index, slice_set, length-append}
 use borrow.Author.Tests.{eqb-true}
 use Rattle.std.specs.List.{list_any}
+use Rattle.indexmap.specs.IndexMap.{IndexMap, spare}
 use Rattle.std.proofs.lemmas.Grind.{common_steps}
 use Rattle.std.proofs.lemmas.Bool.Decides.{nat_tests}
 use Rattle.std.proofs.lemmas.List.Elements.{All-append, All-from_recursion}
@@ -10,23 +11,26 @@ use Rattle.council_core.specs.declared.commands.Standing.{Standing}
 use Rattle.council_core.specs.declared.limits.TheConstants.{MAX_MEMBERS}
 use Rattle.council_core.specs.declared.registers.Register.TheInside.{Inside}
 use Rattle.council_core.specs.declared.totals.ChairTotals.{ChairTotals}
-use Rattle.council_core.specs.Rolls.{Roll, RollEntry, same_chair, standing_among, with_standing, members_without, new_entry, new_standing, roll_with_member, roll_without_member, sits_in, effective_votes, votes_in, weight, is_open, chair_word, can_receive, has_members, step, opening_roll}
-use Rattle.std.specs.Result.{result_unwrap_or}
+use Rattle.council_core.specs.Rolls.{Roll, RollEntry, same_chair, standing_among, with_standing, members_without, new_entry, new_standing, roll_with_member, roll_without_member, sits_in, effective_votes, votes_in, weight, is_open, chair_word, can_receive, has_members, step, next_roll, opening_roll}
 use Rattle.council_core.specs.declared.commands.Command.{Command}
 use Rattle.council_core.specs.Ledgers.{Ledger, roll_of, ledger_with}
 use Rattle.council_core.specs.Laws.{SetsInRange}
 use Rattle.council_core.specs.Registers.{Mirrors, IsKept, members_in_chair, sits_as}
 use Rattle.council_core.proofs.RollLemmas.{fold_from-push, all_accepted-push, sum_with_standing, sum_without, part_of_sum, length-with_standing, length-without, all_with_standing, all_without}
 
--- what a register stores in addition to its journal: its members, and the running numbers of the
--- chairs
+-- what a register stores in addition to its journal: its members, the room for more, and the running
+-- numbers of the chairs
 pub record Kept : Type 0 where
   pub entries : List RollEntry
+  pub spare : ℕ
   pub totals : ChairTotals
+
+abbrev pub kept_in : {S : Type 0} → IndexMap (List ℕ) Standing S → ChairTotals → Kept
+kept_in members totals = record { entries = members.entries; spare = spare members; totals = totals }
 
 -- what the fields of a register keep
 abbrev pub kept_of : Inside → Kept
-kept_of r = record { entries = r.members.entries; totals = r.totals }
+kept_of r = kept_in r.members r.totals
 
 -- what is kept is what the roll says
 abbrev pub IsMirror : Roll → Kept → Type 0
@@ -34,7 +38,7 @@ IsMirror roll kept = Mirrors roll kept.entries kept.totals.words kept.totals.cou
 
 -- what is stored agrees with this ledger
 abbrev pub IsBeside : Ledger → Kept → Type 0
-IsBeside l kept = IsKept l kept.entries kept.totals.words kept.totals.counts kept.totals.total
+IsBeside l kept = IsKept l kept.entries kept.spare kept.totals.words kept.totals.counts kept.totals.total
 
 -- the running numbers lose what a standing gave them
 pub record Loss (before after : ChairTotals) (old : Standing) : Type 0 where
@@ -199,7 +203,7 @@ Mirrors-close roll kept m k small within empty =
 -- a member's standing is changed
 pub Mirrors-update : (roll : Roll) (kept : Kept) → IsMirror roll kept → (code : List ℕ) (old new : Standing) → standing_among code roll.members ≡ Some old → can_receive roll new.chair ≡ true
     → (after : ChairTotals) → Exchange kept.totals after old new
-    → IsMirror (record roll { members = with_standing code new roll.members }) (record { entries = with_standing code new kept.entries; totals = after })
+    → IsMirror (record roll { members = with_standing code new roll.members }) (record kept { entries = with_standing code new kept.entries; totals = after })
 Mirrors-update roll kept m code old new known fits after x =
     record {
       same_members = ap (with_standing code new) m.same_members;
@@ -225,7 +229,7 @@ Mirrors-update roll kept m code old new known fits after x =
 -- a member is entered, in no chair
 pub Mirrors-admit : (roll : Roll) (kept : Kept) → IsMirror roll kept → (code : List ℕ) (votes : ℕ) → length roll.members < MAX_MEMBERS
     → (after : ChairTotals) → Gain kept.totals after (new_standing votes)
-    → IsMirror (roll_with_member roll code votes) (record { entries = kept.entries ++ new_entry (code, votes) ∷ []; totals = after })
+    → IsMirror (roll_with_member roll code votes) (record kept { entries = kept.entries ++ new_entry (code, votes) ∷ []; totals = after })
 Mirrors-admit roll kept m code votes room after gain =
     let more : (f : Standing → ℕ) → sum_by (λ e. f e.1) (roll.members ++ new_entry (code, votes) ∷ []) ≡ sum_by (λ e. f e.1) roll.members + (0 + f (new_standing votes))
     = λ f. sum_by-append (λ (e : RollEntry). f e.1) roll.members (new_entry (code, votes) ∷ []) in
@@ -251,7 +255,7 @@ Mirrors-admit roll kept m code votes room after gain =
 -- a member that sits in no chair leaves
 pub Mirrors-withdraw : (roll : Roll) (kept : Kept) → IsMirror roll kept → (code : List ℕ) (old : Standing) → standing_among code roll.members ≡ Some old → old.chair ≡ None
     → (after : ChairTotals) → Loss kept.totals after old
-    → IsMirror (roll_without_member roll code) (record { entries = members_without code kept.entries; totals = after })
+    → IsMirror (roll_without_member roll code) (record kept { entries = members_without code kept.entries; totals = after })
 Mirrors-withdraw roll kept m code old known unseated after loss =
     let no_votes : (c : ℕ) → votes_in c old ≡ 0 = λ c. ap (λ chair. cond (same_chair chair (Some c)) (effective_votes old) 0) unseated in
     let no_seat : (c : ℕ) → sits_as c old ≡ 0 = λ c. ap (λ chair. cond (same_chair chair (Some c)) 1 0) unseated in
@@ -274,14 +278,15 @@ Mirrors-withdraw roll kept m code old known unseated after loss =
     }
 
 -- one more command is accepted, and the rest follows the roll
-pub IsKept-appended : (l : Ledger) (kept : Kept) → IsBeside l kept → (command : Command) (next : Roll) → step (roll_of l) command ≡ Ok next → length l.journal < l.limit → SetsInRange command
-    → (now : Kept) → IsMirror next now → IsBeside (ledger_with l command) now
-IsKept-appended l kept beside command next steps room votes now m =
+pub IsKept-appended : (l : Ledger) (kept : Kept) → IsBeside l kept → (command : Command) → is_ok (step (roll_of l) command) ≡ true → length l.journal < l.limit → SetsInRange command
+    → (now : Kept) → MAX_MEMBERS ≤ length now.entries + now.spare → IsMirror (next_roll (roll_of l) command) now → IsBeside (ledger_with l command) now
+IsKept-appended l kept beside command ok within votes now room m =
     record {
       begun = beside.begun;
       votes = All-append SetsInRange l.journal (command ∷ []) beside.votes (All-from_recursion SetsInRange (command ∷ []) (votes, tt));
-      legal = all_accepted-push (opening_roll l.opening) l.journal command ∙ ap (λ b. b && is_ok (step (roll_of l) command)) beside.legal ∙ ap is_ok steps;
+      legal = all_accepted-push (opening_roll l.opening) l.journal command ∙ ap (λ b. b && is_ok (step (roll_of l) command)) beside.legal ∙ ok;
       within = rw length-append (omega arith);
       small_limit = beside.small_limit;
-      mirrors = subst (λ (r : Roll). IsMirror r now) (sym (fold_from-push (opening_roll l.opening) l.journal command ∙ ap (λ r. result_unwrap_or r (roll_of l)) steps)) m;
+      room = room;
+      mirrors = subst (λ (r : Roll). IsMirror r now) (sym (fold_from-push (opening_roll l.opening) l.journal command)) m;
     }

@@ -1,10 +1,11 @@
 -- The sheet shown of a register, and of its copy.
-use Rattle.std.proofs.Common.{◌≡◌, ℕ, zero, suc, ◌≤◌, List, [], ◌∷◌, length, take, refl, sym, ap, ◌∙◌, arith}
+use Rattle.std.proofs.Common.{◌≡◌, ℕ, ◌≤◌, List, length, take, sym, ap, ◌∙◌, arith}
 use Rattle.std.proofs.lemmas.List.{length-take, take_all}
 use Rattle.council_core.specs.Ledgers.{Ledger, ledger_as_of, sheet_of}
 use Rattle.council_core.specs.Published.{IsShown}
 use Rattle.council_core.specs.Rolls.{sheet}
 use Rattle.council_core.specs.Sheets.{IsSheet, front_of}
+use Rattle.council_core.proofs.UndoLemmas.{take-length, take-take}
 
 -- a register may show its own sheet
 pub shows-own : (l : Ledger) (words : List ℕ) → words ≡ sheet_of l → IsSheet words → IsShown l words
@@ -16,16 +17,20 @@ shows-own l words is range =
       in_range = range;
     }
 
-earlier : {A : Type 0} (n m : ℕ) (xs : List A) → n ≤ m → take n xs ≡ take n (take m xs)
-earlier zero m xs h = refl
-earlier (suc n) zero xs h = absurd (omega arith)
-earlier (suc n) (suc m) [] h = refl
-earlier (suc n) (suc m) (x ∷ xs) h = ap (λ ys. x ∷ ys) (earlier n m xs (omega arith))
+-- and the sheet of its first commands
+pub shows-first : (l : Ledger) (words : List ℕ) (first : ℕ) → words ≡ sheet_of (ledger_as_of l first) → IsSheet words → IsShown l words
+shows-first l words first is range =
+    let front : front_of words ≡ length (take first l.journal) = ap front_of is in
+    record {
+      within = omega (arith, front, length-take first l.journal);
+      same = is ∙ ap (sheet l.opening) (sym (ap (λ n. take n l.journal) front ∙ take-length l.journal first));
+      in_range = range;
+    }
 
 -- a copy of the first commands may show a sheet of at most these
 pub shows-earlier : (l : Ledger) (words : List ℕ) (accepted : ℕ) → IsShown l words → front_of words ≤ accepted → IsShown (ledger_as_of l accepted) words
 shows-earlier l words accepted shown within = record {
   within = omega (arith, length-take accepted l.journal, shown.within);
-  same = shown.same ∙ ap (sheet l.opening) (earlier (front_of words) accepted l.journal within);
+  same = shown.same ∙ ap (sheet l.opening) (take-take l.journal (front_of words) accepted within);
   in_range = shown.in_range;
 }

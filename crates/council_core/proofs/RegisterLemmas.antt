@@ -1,25 +1,23 @@
 -- What the calls of a register need of what it keeps, and how they keep it.
-use Rattle.std.proofs.Common.{◌≡◌, ℕ, ◌+◌, ◌^◌, ◌<◌, ◌≤◌, ◌==◌, true, false, cond, List, [], ◌∷◌, ◌++◌, length, Some, Result, Ok, Err, sym, ◌∙◌, ap, subst, refl, arith, All, slice_index, slice_set, if◌then◌else◌, is_ok, take, get_or, true≢false}
-use Rattle.std.specs.Prelude.{⊤, remove}
+use Rattle.std.proofs.Common.{◌≡◌, ℕ, ◌+◌, ◌^◌, ◌<◌, ◌≤◌, ◌==◌, true, false, cond, List, [], ◌∷◌, length, Some, Result, Ok, Err, sym, ◌∙◌, ap, subst, refl, arith, All, slice_index, if◌then◌else◌, is_ok, take, get_or, true≢false}
+use Rattle.std.specs.Prelude.{⊤}
 use Rattle.std.specs.List.{AllByRecursion}
 use borrow.Author.Tests.{eqb-false}
 use Rattle.std.proofs.lemmas.Bool.{ne_eqb}
 use Rattle.std.proofs.lemmas.List.{length-take}
 use Rattle.std.proofs.lemmas.List.Elements.{All-from_recursion, recursion_from_All}
 use Rattle.std.proofs.lemmas.List.Sums.{sum_by-le, sum_by-le-sum_by}
-use Rattle.indexmap.specs.IndexMap.{set_value_at}
-use Rattle.indexmap.proofs.MapLemmas.{Found-position, insert_entry-first, remove_entry-first}
 use Rattle.council_core.specs.declared.changes.Change.{Change}
+use Rattle.council_core.specs.declared.changes.Change.TheVariants as change
 use Rattle.council_core.specs.declared.commands.Command.{Command}
 use Rattle.council_core.specs.declared.commands.Standing.{Standing}
 use Rattle.council_core.specs.declared.refusals.Refusal.{Refusal}
 use Rattle.council_core.specs.declared.refusals.Refusal.TheVariants.{JournalFull}
-use Rattle.council_core.specs.Rolls.{Roll, RollEntry, same_code, standing_among, index_among, with_standing, members_without, new_entry, new_standing, sits_in, effective_votes, votes_in, weight, total, is_open, roll_with_open, roll_with_closed, has_members, roll_with_member, roll_without_member, step, step, all_accepted, opening_roll}
+use Rattle.council_core.specs.Rolls.{Roll, RollEntry, standing_among, sits_in, effective_votes, votes_in, weight, total, is_open, step, step, all_accepted, opening_roll}
 use Rattle.council_core.specs.Ledgers.{Ledger, roll_of, room_of, verdict, verdict_of, ledger_as_of}
-use Rattle.council_core.specs.Laws.{SetsInRange}
-use Rattle.council_core.specs.Registers.{IsPlanned, OpensChair, IsClosing, IsChange, IsEntry, IsLeaving, members_in_chair, sits_as}
-use Rattle.council_core.proofs.RollLemmas.{insert-with_standing, without-removed, part_of_sum, accepted-at}
-use Rattle.council_core.proofs.MirrorLemmas.{Kept, IsMirror, IsBeside, Loss, Gain, Exchange, Mirrors-open, Mirrors-close, Mirrors-update, Mirrors-admit, Mirrors-withdraw, IsKept-appended, seat_is_free}
+use Rattle.council_core.specs.Registers.{IsPlanned, members_in_chair, sits_as}
+use Rattle.council_core.proofs.RollLemmas.{part_of_sum, accepted-at}
+use Rattle.council_core.proofs.MirrorLemmas.{Kept, IsMirror, seat_is_free}
 
 below : (a b : ℕ) → (a ≡ b → ⊥) → a ≤ b → a < b
 below a b h k = omega (arith, h, k)
@@ -112,76 +110,13 @@ pub planned_as : (l v : Ledger) (command : Command) (x y : Change) → l ≡ v �
 planned_as l v command x y same is planned =
     subst (λ (z : Change). IsPlanned (roll_of l) command z) is (subst (λ (u : Ledger). IsPlanned (roll_of u) command x) (sym same) planned)
 
--- a register that accepts a command: what it keeps, and its journal with the command written down
-pub record Accepts (l : Ledger) (command : Command) : Type 0 where
-  pub kept : Kept
-  pub beside : IsBeside l kept
-  pub room : room_of l ≡ Ok tt
-  pub votes : SetsInRange command
-  pub journal : List Command
-  pub grown : journal ≡ l.journal ++ command ∷ []
-
--- the change of an accepted command is carried out, and the command is written down
-module _ (l : Ledger) (command : Command) (a : Accepts l command) where
-  abbrev IsAfter : Kept → Type 0
-  IsAfter now = IsBeside (record { opening = l.opening; journal = a.journal; limit = l.limit }) now
-
-  written : (next : Roll) → step (roll_of l) command ≡ Ok next → (now : Kept) → IsMirror next now → IsAfter now
-  written next steps now m =
-      subst (λ (j : List Command). IsBeside (record { opening = l.opening; journal = j; limit = l.limit }) now) (sym a.grown)
-      (IsKept-appended l a.kept a.beside command next steps (room_is l a.room a.beside.within) a.votes now m)
-
-  -- a chair is opened
-  pub IsKept-open : (k c : ℕ) → k + 1 ≡ c → k < 32 → k < length a.kept.totals.words → OpensChair (roll_of l) command c
-      → IsAfter (record a.kept { totals = record a.kept.totals { words = slice_set a.kept.totals.words k 1 } })
-  IsKept-open k c index small within opening =
-      let now : Kept = record a.kept { totals = record a.kept.totals { words = slice_set a.kept.totals.words k 1 } } in
-      let m = Mirrors-open (roll_of l) a.kept a.beside.mirrors k small within (ap (is_open (roll_of l)) index ∙ opening.shut) in
-      written (roll_with_open (roll_of l) c) opening.effect now (subst (λ (d : ℕ). IsMirror (roll_with_open (roll_of l) d) now) index m)
-
-  -- a chair is closed
-  pub IsKept-close : (k c : ℕ) → k + 1 ≡ c → k < 32 → k < length a.kept.totals.words → IsClosing (roll_of l) command c
-      → IsAfter (record a.kept { totals = record a.kept.totals { words = slice_set a.kept.totals.words k 0 } })
-  IsKept-close k c index small within closing =
-      let now : Kept = record a.kept { totals = record a.kept.totals { words = slice_set a.kept.totals.words k 0 } } in
-      let m = Mirrors-close (roll_of l) a.kept a.beside.mirrors k small within (ap (has_members (roll_of l)) index ∙ closing.empty) in
-      written (roll_with_closed (roll_of l) c) closing.effect now (subst (λ (d : ℕ). IsMirror (roll_with_closed (roll_of l) d) now) index m)
-
-  -- a member's standing is changed
-  pub IsKept-change : (index : ℕ) (old new : Standing) → (code : List ℕ) × (index_among code (roll_of l).members ≡ Some index) × IsChange (roll_of l) command code old new
-      → (now : Kept) → Exchange a.kept.totals now.totals old new → now.entries ≡ set_value_at a.kept.entries index new → IsAfter now
-  IsKept-change index old new planned now x put =
-      let es : List RollEntry = a.kept.entries in
-      let code = planned.0 in
-      let change = planned.2 in
-      let there : standing_among code es ≡ Some old = ap (standing_among code) a.beside.mirrors.same_members ∙ change.known in
-      let at : index_among code es ≡ Some index = ap (index_among code) a.beside.mirrors.same_members ∙ planned.1 in
-      let first = (Found-position (same_code code) es index at).first in
-      let same : now.entries ≡ with_standing code new es = put ∙ sym (insert_entry-first same_code code new es index first) ∙ insert-with_standing code new es old there in
-      let roll : Roll = roll_of l in
-      let next : Roll = record roll { members = with_standing code new roll.members } in
-      let m = Mirrors-update roll a.kept a.beside.mirrors code old new change.known change.seat now.totals x in
-      written next change.effect now (subst (λ (e : List RollEntry). IsMirror next (record { entries = e; totals = now.totals })) (sym same) m)
-
-  -- a member is entered
-  pub IsKept-admit : (code : List ℕ) (votes : ℕ) → IsEntry (roll_of l) command code votes
-      → (now : Kept) → Gain a.kept.totals now.totals (new_standing votes) → now.entries ≡ a.kept.entries ++ new_entry (code, votes) ∷ [] → IsAfter now
-  IsKept-admit code votes entry now gain put =
-      let m = Mirrors-admit (roll_of l) a.kept a.beside.mirrors code votes entry.room now.totals gain in
-      written (roll_with_member (roll_of l) code votes) entry.effect now (subst (λ (e : List RollEntry). IsMirror (roll_with_member (roll_of l) code votes) (record { entries = e; totals = now.totals })) (sym put) m)
-
-  -- a member leaves
-  pub IsKept-withdraw : (index : ℕ) (old : Standing) → (code : List ℕ) × (index_among code (roll_of l).members ≡ Some index) × IsLeaving (roll_of l) command code old
-      → (now : Kept) → Loss a.kept.totals now.totals old → now.entries ≡ remove a.kept.entries index → IsAfter now
-  IsKept-withdraw index old planned now loss put =
-      let es : List RollEntry = a.kept.entries in
-      let code = planned.0 in
-      let leaving = planned.2 in
-      let at : index_among code es ≡ Some index = ap (index_among code) a.beside.mirrors.same_members ∙ planned.1 in
-      let first = (Found-position (same_code code) es index at).first in
-      let same : now.entries ≡ members_without code es = put ∙ sym (remove_entry-first (same_code code) es index first) ∙ sym (without-removed code es) in
-      let m = Mirrors-withdraw (roll_of l) a.kept a.beside.mirrors code old leaving.known leaving.unseated now.totals loss in
-      written (roll_without_member (roll_of l) code) leaving.effect now (subst (λ (e : List RollEntry). IsMirror (roll_without_member (roll_of l) code) (record { entries = e; totals = now.totals })) (sym same) m)
+-- a planned command is accepted
+pub planned_ok : (roll : Roll) (command : Command) (change : Change) → IsPlanned roll command change → is_ok (step roll command) ≡ true
+planned_ok roll command (change.Open chair) p = ap is_ok p.effect
+planned_ok roll command (change.Close chair) p = ap is_ok p.effect
+planned_ok roll command (change.Stand index old new) p = ap is_ok p.2.effect
+planned_ok roll command (change.Enter code votes) p = ap is_ok p.effect
+planned_ok roll command (change.Leave index old) p = ap is_ok p.2.effect
 
 verdict_ok : (stepped : Result Roll Refusal) (room : Result ⊤ Refusal) → is_ok stepped ≡ true → verdict stepped room ≡ room
 verdict_ok (Ok r) room h = refl

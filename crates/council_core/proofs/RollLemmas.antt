@@ -1,5 +1,5 @@
 -- What a step does to the sums over members, and to the fold.
-use Rattle.std.proofs.Common.{◌≡◌, ℕ, zero, suc, ◌+◌, ◌<◌, ◌≤◌, Bool, true, false, true≢false, cond, ◌&&◌, List, [], ◌∷◌, ◌++◌, length, take, get_or, sum_by, Some, is_ok, ap, sym, refl, arith, All}
+use Rattle.std.proofs.Common.{◌≡◌, ℕ, zero, suc, ◌+◌, ◌<◌, ◌≤◌, Bool, true, false, true≢false, cond, ◌&&◌, List, [], ◌∷◌, ◌++◌, length, take, drop, get_or, sum_by, Some, is_ok, ap, sym, ◌∙◌, refl, arith, All}
 use Rattle.indexmap.specs.IndexMap.{insert_entry}
 use Rattle.std.specs.List.{AllByRecursion}
 use Rattle.std.specs.Map.{remove_entry}
@@ -119,3 +119,27 @@ pub accepted-at : (r : Roll) (xs : List Command) (i : ℕ) (c : Command) → all
 accepted-at r [] i c h within at = absurd (omega arith)
 accepted-at r (x ∷ xs) zero c h within at = rw at (both-left (is_ok (step r x)) _ h)
 accepted-at r (x ∷ xs) (suc i) c h within at = accepted-at (next_roll r x) xs i c (both-right (is_ok (step r x)) _ h) (omega arith) at
+
+-- so are those up to one of them
+pub accepted-take : (r : Roll) (xs : List Command) (n : ℕ) → all_accepted r xs ≡ true → all_accepted r (take n xs) ≡ true
+accepted-take r xs zero h = refl
+accepted-take r [] (suc n) h = refl
+accepted-take r (x ∷ xs) (suc n) h =
+    ap (λ b. b && all_accepted (next_roll r x) (take n xs)) (both-left (is_ok (step r x)) _ h) ∙ accepted-take (next_roll r x) xs n (both-right (is_ok (step r x)) _ h)
+
+-- and those from it on, after them
+pub accepted-drop : (r : Roll) (xs : List Command) (n : ℕ) → all_accepted r xs ≡ true → all_accepted (fold_from r (take n xs)) (drop n xs) ≡ true
+accepted-drop r xs zero h = h
+accepted-drop r [] (suc n) h = refl
+accepted-drop r (x ∷ xs) (suc n) h = accepted-drop (next_roll r x) xs n (both-right (is_ok (step r x)) _ h)
+
+none_taken : (n : ℕ) → take {A = Command} n [] ≡ []
+none_taken zero = refl
+none_taken (suc n) = refl
+
+-- the first commands and then some more are the first ones
+pub fold_from-more : (r : Roll) (xs : List Command) (n more m : ℕ) → n + more ≡ m → fold_from (fold_from r (take n xs)) (take more (drop n xs)) ≡ fold_from r (take m xs)
+fold_from-more r xs zero more m h = ap (λ k. fold_from r (take k xs)) (omega (arith, h))
+fold_from-more r [] (suc n) more m h = ap (fold_from r) (none_taken more ∙ sym (none_taken m))
+fold_from-more r (x ∷ xs) (suc n) more zero h = absurd (omega (arith, h))
+fold_from-more r (x ∷ xs) (suc n) more (suc m) h = fold_from-more (next_roll r x) xs n more m (omega (arith, h))

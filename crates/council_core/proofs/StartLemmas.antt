@@ -6,13 +6,13 @@ use Rattle.std.proofs.lemmas.Bool.Decides.{nat_tests}
 use Rattle.std.proofs.lemmas.List.{length-map}
 use Rattle.std.proofs.lemmas.List.Elements.{All-from_recursion, recursion_from_All}
 use Rattle.std.proofs.lemmas.List.Sums.{sum_by-cons}
-use Rattle.council_core.specs.Rolls.{RollEntry, Opening, new_entry, same_code, standing_among, effective_votes}
+use Rattle.council_core.specs.Rolls.{RollEntry, Opening, new_entry, same_code, standing_among, effective_votes, opening_roll}
 use Rattle.council_core.specs.Ledgers.{has_duplicate, start_verdict}
 use Rattle.council_core.specs.declared.refusals.Refusal.{Refusal}
 use Rattle.council_core.specs.declared.refusals.Refusal.TheVariants.{BadLimit, DuplicateMember, TooManyMembers}
 use Rattle.council_core.specs.Registers.{members_in_chair, sits_as}
 use Rattle.council_core.specs.Laws.{IsOpening, SetsInRange}
-use Rattle.council_core.proofs.MirrorLemmas.{Kept, IsBeside}
+use Rattle.council_core.proofs.MirrorLemmas.{Kept, IsMirror, IsBeside}
 
 pub zeros : (n k : ℕ) → ◌≡◌ {A = ℕ} (get_or (replicate {A = ℕ} n 0) k 0) 0
 zeros zero k = refl
@@ -61,35 +61,45 @@ pub start_small : (opening : Opening) → AllByRecursion (λ m. m.1 ≤ 2 ^ 40) 
 start_small [] h = tt
 start_small (m ∷ ms) h = (h.0, start_small ms h.1)
 
--- a register at its start: the members given, no weight and no member in any chair, and all their
--- votes
-pub record IsStart (opening : Opening) (limit : ℕ) (kept : Kept) : Type 0 where
+-- the data of a register at its start: the members given, no weight and no member in any chair, and all
+-- their votes
+pub record IsBeginning (opening : Opening) (kept : Kept) : Type 0 where
   pub made : kept.entries ≡ map new_entry opening
   pub bound : length opening ≤ 256
-  pub apart : has_duplicate opening ≡ false
-  pub small : limit ≤ 1000000
   pub words : (k : ℕ) → slice_index kept.totals.words k ≡ 0
   pub counts : (k : ℕ) → slice_index kept.totals.counts k ≡ 0
   pub total : kept.totals.total ≡ sum_by (λ (m : List ℕ × ℕ). m.1) opening
   pub votes : All (λ (m : List ℕ × ℕ). m.1 ≤ 2 ^ 40) opening
 
+pub Mirrors-start : (opening : Opening) (kept : Kept) → IsBeginning opening kept → IsMirror (opening_roll opening) kept
+Mirrors-start opening kept start =
+    record {
+      same_members = start.made;
+      each_word = λ k h. start.words k;
+      each_count = λ k h. start.counts k ∙ sym (start_seated opening (k + 1));
+      same_total = start.total ∙ sym (start_total opening);
+      closed_empty = λ c h. start_seated opening c;
+      bound = subst (λ (l : List RollEntry). length l ≤ 256) (sym start.made) (rw length-map start.bound);
+      small = subst (λ (l : List RollEntry). All (λ m. m.1.votes ≤ 2 ^ 40) l) (sym start.made) (All-from_recursion _ _ (start_small opening (recursion_from_All _ _ start.votes)));
+    }
+
+-- a register at its start
+pub record IsStart (opening : Opening) (limit : ℕ) (kept : Kept) : Type 0 where
+  pub beginning : IsBeginning opening kept
+  pub room : 256 ≤ length kept.entries + kept.spare
+  pub apart : has_duplicate opening ≡ false
+  pub small : limit ≤ 1000000
+
 pub IsKept-start : (opening : Opening) (limit : ℕ) (kept : Kept) → IsStart opening limit kept → IsBeside (record { opening = opening; journal = []; limit = limit }) kept
 IsKept-start opening limit kept start =
     record {
-      begun = record { bound = start.bound; apart = start.apart; small = start.votes };
+      begun = record { bound = start.beginning.bound; apart = start.apart; small = start.beginning.votes };
       votes = All-from_recursion SetsInRange [] tt;
       legal = refl;
       within = omega arith;
       small_limit = start.small;
-      mirrors = record {
-        same_members = start.made;
-        each_word = λ k h. start.words k;
-        each_count = λ k h. start.counts k ∙ sym (start_seated opening (k + 1));
-        same_total = start.total ∙ sym (start_total opening);
-        closed_empty = λ c h. start_seated opening c;
-        bound = subst (λ (l : List RollEntry). length l ≤ 256) (sym start.made) (rw length-map start.bound);
-        small = subst (λ (l : List RollEntry). All (λ m. m.1.votes ≤ 2 ^ 40) l) (sym start.made) (All-from_recursion _ _ (start_small opening (recursion_from_All _ _ start.votes)));
-      };
+      room = start.room;
+      mirrors = Mirrors-start opening kept start.beginning;
     }
 
 abbrev refusals : Bool → Bool → Bool → Result ⊤ Refusal

@@ -1,12 +1,13 @@
 -- Worked examples, computed by the definitions.
-use Rattle.std.proofs.Common.{◌≡◌, ◌^◌, ℕ, List, [], ◌∷◌, ◌++◌, map, Some, None, Ok, Err, refl, replicate}
+use Rattle.std.proofs.Common.{◌≡◌, ◌^◌, ℕ, List, [], ◌∷◌, ◌++◌, map, Some, None, Ok, Err, refl, ap, arith, replicate}
 use Rattle.std.specs.List.{range_with_len}
 use Rattle.council_core.specs.Refusals.{code_of, every_refusal, refusal_of}
 use Rattle.council_core.specs.Ledgers.{start_verdict}
 use Rattle.council_core.specs.Rolls.{Roll, Opening, new_entry, admit_member, sheet, cast, roll_after}
 use Rattle.council_core.specs.Coalitions.{eta_of, omega_of, threshold_rule}
 use Rattle.council_core.specs.Sheets.{Chair}
-use Rattle.council_core.specs.Sequential.{Sequential, Reply, answered, submit, publish, read, reading, replies_of}
+use Rattle.council_core.specs.Sequential.{Sequential, Reply, answered, submit, publish, published_sheet, read, reading, replies_of}
+use Rattle.council_core.specs.Published.{sequential_taken_back}
 use Rattle.council_core.specs.declared.calls.Answer.TheVariants as answer
 use Rattle.council_core.specs.declared.refusals.Refusal.{Refusal}
 use Rattle.council_core.specs.declared.limits.TheConstants.{MAX_COMMANDS, MAX_MEMBERS, MAX_TOTAL, MAX_VOTES}
@@ -125,3 +126,35 @@ starts_up_to = (refl, refl)
 -- the refusals by number are 1 to 35, and two of them that no run prints have these numbers
 pub numbered : (map code_of every_refusal ≡ range_with_len 1 35) × (refusal_of 18 ≡ Some NoEntry) × (refusal_of 33 ≡ Some TooManyChairs)
 numbered = (refl, refl, refl)
+
+-- a register with three accepted commands, so many of which are published
+abbrev with_three : ℕ → Sequential
+with_three published = record { ledger = record { opening = three_members; journal = Open 1 ∷ Open 2 ∷ Open 3 ∷ []; limit = 5 }; published = published }
+
+abbrev with_first : ℕ → Sequential
+with_first published = record { ledger = record { opening = three_members; journal = Open 1 ∷ []; limit = 5 }; published = published }
+
+-- taken back to its first command, all that is left of the published ones is published, or less
+pub taken_back : (sequential_taken_back (with_three 2) 1 3 ≡ with_first 1) × (sequential_taken_back (with_three 2) 1 0 ≡ with_first 0) × (sequential_taken_back (with_three 0) 1 1 ≡ with_first 0)
+taken_back = (refl, refl, refl)
+
+-- to no fewer commands than there are, no command is taken back, and publications may be
+pub taken_back_to_more : (sequential_taken_back (with_three 2) 3 3 ≡ with_three 2) × (sequential_taken_back (with_three 2) 9 9 ≡ with_three 2) × (sequential_taken_back (with_three 2) 9 1 ≡ with_three 1)
+taken_back_to_more = (refl, refl, refl)
+
+-- to nothing, the opening is published
+pub taken_back_to_nothing : published_sheet (sequential_taken_back (with_three 3) 0 3) ≡ replicate 32 0 ++ 100 ∷ 0 ∷ []
+taken_back_to_nothing = refl
+
+-- a command that is taken back is not published, and nothing is published that was not before
+pub none_published_of_those_taken_back : sequential_taken_back (with_three 2) 1 3 ≡ with_first 2 → ⊥
+none_published_of_those_taken_back h = two_is_not_one (ap (λ s. s.published) h)
+  where
+    two_is_not_one : ◌≡◌ {A = ℕ} 1 2 → ⊥
+    two_is_not_one e = omega (arith, e)
+
+pub none_published_first : sequential_taken_back (with_three 0) 3 3 ≡ with_three 3 → ⊥
+none_published_first h = zero_is_not_three (ap (λ s. s.published) h)
+  where
+    zero_is_not_three : ◌≡◌ {A = ℕ} 0 3 → ⊥
+    zero_is_not_three e = omega (arith, e)

@@ -7,6 +7,7 @@ pub mod Published
 pub mod Sheets
 pub mod Coalitions
 pub mod Registers
+pub mod Changes
 pub mod Verdicts
 pub mod Members
 pub mod Laws

@@ -21,3 +21,9 @@ shown_as ledger words = record { ledger = ledger; published = front_of words }
 -- published
 abbrev pub sequential_as_of : Sequential → ℕ → Sequential
 sequential_as_of s accepted = record { ledger = ledger_as_of s.ledger accepted; published = min s.published accepted }
+
+-- the sequential register taken back to its first `accepted` commands; those of them that are published
+-- stay published, but no more than the first `published`
+abbrev pub sequential_taken_back : Sequential → ℕ → ℕ → Sequential
+sequential_taken_back s accepted published =
+    record { ledger = ledger_as_of s.ledger accepted; published = min (min s.published published) accepted }

@@ -33,14 +33,15 @@ pub record Mirrors (roll : Roll) (entries : List RollEntry) (words counts : List
   pub small : All (λ m. m.1.votes ≤ MAX_VOTES) entries
 
 -- the invariant of every register: members with which a register can start, commands that set votes
--- in range, a legal journal within its limit, and stored data that agree with the roll after this
--- journal
-pub record IsKept (ledger : Ledger) (entries : List RollEntry) (words counts : List ℕ) (sum : ℕ) : Type 0 where
+-- in range, a legal journal within its limit, room for MAX_MEMBERS members, and stored data that agree
+-- with the roll after this journal
+pub record IsKept (ledger : Ledger) (entries : List RollEntry) (spare : ℕ) (words counts : List ℕ) (sum : ℕ) : Type 0 where
   pub begun : laws.IsOpening ledger.opening
   pub votes : All SetsInRange ledger.journal
   pub legal : all_accepted (opening_roll ledger.opening) ledger.journal ≡ true
   pub within : length ledger.journal ≤ ledger.limit
   pub small_limit : ledger.limit ≤ MAX_COMMANDS
+  pub room : MAX_MEMBERS ≤ length entries + spare
   pub mirrors : Mirrors (roll_of ledger) entries words counts sum
 
 -- the command opens a chair that is closed

@@ -1,7 +1,7 @@
 //! The register together with the sheet published last, which readers see.
 ghost use Rattle.std.specs.Prelude.{◌≡◌, ◌≤◌, length, IfOk, IsOkUnless, OnErr};
 ghost use Rattle.council_core.specs.Ledgers.{ledger_with, verdict_of};
-ghost use Rattle.council_core.specs.Published.{sequential_as_of};
+ghost use Rattle.council_core.specs.Published.{sequential_as_of, sequential_taken_back};
 ghost use Rattle.council_core.specs.Sequential.{answered, ordered, published_sheet, response_to, submit};
 ghost use Rattle.council_core.specs.Sheets.{IsSheet};
 ghost use Rattle.council_core.specs.Verdicts.{Follows};
@@ -147,5 +147,22 @@ impl PublishedRegister {
             register.sheet()
         };
         Ok(PublishedRegister { register, shown })
+    }
+
+    /// Takes the register back, in place, to what it was after its first `accepted` commands; if it
+    /// has accepted no more, nothing is taken back. Those of its commands that are published stay
+    /// published, but no more than the first `published`. It allocates nothing, and takes the time of
+    /// carrying out these commands again.
+    ///
+    /// ```rust
+    /// let (accepted, published) = (board.register().accepted(), board.published());
+    /// board.answer(Order::Submit(Command::Open(chair)))?;
+    /// board.undo_to(accepted, published); // the chair was never opened
+    /// ```
+    pub fn undo_to(&mut self, accepted: u32, published: u32)
+        ensures taken_back { self.new ≡ sequential_taken_back self.old accepted published }
+    {
+        let front = self.shown.front().min(published);
+        self.shown = self.register.take_back(accepted, front);
     }
 }

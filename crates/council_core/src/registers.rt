@@ -16,13 +16,13 @@ ghost use Rattle.council_core.specs.declared.commands.Command.TheVariants.{Open,
 ghost use Rattle.council_core.specs.declared.commands.Command.TheVariants.{Restore, Admit, Withdraw};
 ghost use Rattle.council_core.specs.declared.refusals.Refusal.TheVariants.{OutOfMemory, UnknownMember};
 
-use crate::changes::Change;
+use crate::changes::{Change, begin, carry_out, replay};
 use crate::commands::{Command, MemberRow, Standing};
 use crate::limits::{FRONT, MAX_COMMANDS, MAX_MEMBERS, SHEET_WORDS, TOTAL};
 use crate::member_rows::MemberRows;
 use crate::refusals::Refusal;
 use crate::sheets::Sheet;
-use crate::stores::{append, copied, enter_all, enter_new, make_room, put, take_out};
+use crate::stores::{append, copied, empty, enter_all, make_room};
 use crate::totals::ChairTotals;
 use crate::values::{ChairId, MemberCode, Votes, index_of};
 use indexmap::IndexMap;
@@ -47,13 +47,14 @@ pub struct Register {
 impl Model for Register {
     ghost use Rattle.council_core.specs.Ledgers.{Ledger};
     ghost use Rattle.council_core.specs.Registers.{IsKept};
+    ghost use Rattle.indexmap.specs.IndexMap.{spare};
 
     ghost Value = { Ledger };
 
     ghost view = { λ r. record { opening = r.opening.items; journal = r.journal.items; limit = r.limit } };
 
     ghost invariant = { λ r. IsKept (record { opening = r.opening.items; journal = r.journal.items; limit = r.limit })
-        r.members.entries r.totals.words r.totals.counts r.totals.total };
+        r.members.entries (spare r.members) r.totals.words r.totals.counts r.totals.total };
 }
 
 // Whether one of the members has this code.
@@ -130,7 +131,8 @@ impl Register {
         ensures memory { IsOkUnless result OutOfMemory }
     {
         let opening = copied(alloc, members)?;
-        let entered = enter_all(alloc, members)?;
+        let mut entered = empty(alloc)?;
+        enter_all(&mut entered, members);
         Ok(Register {
             opening,
             members: entered,
@@ -242,10 +244,7 @@ impl Register {
         ensures in_range { IsSheet result }
         ensures ledger { IsLedger self.now }
     {
-        let mut words = self.totals.words();
-        words[TOTAL] = self.totals.total;
-        words[FRONT] = self.journal.len() as u64;
-        Sheet::from_words_unchecked(&words)
+        self.totals.sheet(self.journal.len() as u32)
     }
 
     /// One number of the sheet after the accepted commands, without the others. `index` is its
@@ -482,26 +481,33 @@ impl Register {
         let change = self.plan(command)?;
         self.check_room()?;
         make_room(&mut self.journal)?;
-        match change {
-            Change::Open(chair) => self.totals.words[index_of(chair)] = 1,
-            Change::Close(chair) => self.totals.words[index_of(chair)] = 0,
-            Change::Stand { index, old, new } => {
-                // The prover needs this line: the votes are in range.
-                let _votes = new.votes.number();
-                self.totals.withdraw(&old);
-                self.totals.enter(&new);
-                put(&mut self.members, index, new);
-            }
-            Change::Enter(code, votes) => {
-                enter_new(&mut self.members, code, votes)?;
-                self.totals.enter(&Standing::fresh(votes));
-            }
-            Change::Leave { index, old } => {
-                self.totals.withdraw(&old);
-                take_out(&mut self.members, index);
-            }
-        }
+        carry_out(&mut self.members, &mut self.totals, change);
         append(&mut self.journal, &command);
         Ok(self.journal.len() as u32)
+    }
+
+    // Takes the register back to what it was after its first `accepted` commands, and returns the
+    // sheet of the first `front` of these.
+    pub(crate) fn take_back(&mut self, accepted: u32, front: u32) -> Sheet
+        ensures taken_back { self.new ≡ ledger_as_of self.old accepted }
+        ensures same { result ≡ sheet_of (ledger_as_of (ledger_as_of self.old accepted) front) }
+        ensures in_range { IsSheet result }
+    {
+        let kept = self.journal.len().min(accepted as usize);
+        let front = kept.min(front as usize);
+        begin(&mut self.members, &mut self.totals, self.opening.as_slice());
+        replay(
+            &mut self.members,
+            &mut self.totals,
+            &self.journal.as_slice()[..front],
+        );
+        let sheet = self.totals.sheet(front as u32);
+        replay(
+            &mut self.members,
+            &mut self.totals,
+            &self.journal.as_slice()[front..kept],
+        );
+        self.journal.truncate(kept);
+        sheet
     }
 }

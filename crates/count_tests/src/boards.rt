@@ -66,10 +66,8 @@ fn a_board_at_all_limits(rt: HostRuntime) -> Result<(), Fail> {
     let sheet = largest_sheet(rt.alloc())?;
     let mut evaluator = Evaluator::new(rt.alloc())?;
     let mut room = ListRoom {
-        left_sums: [7; ROOM],
-        right_sums: [7; ROOM],
-        left_masks: [7; ROOM],
-        right_masks: [7; ROOM],
+        left: [7; ROOM],
+        right: [7; ROOM],
     };
     count_equals(&rt, &mut evaluator, &mut room, &sheet);
     Ok(())

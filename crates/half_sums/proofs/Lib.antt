@@ -1,4 +1,5 @@
-pub mod Columns
+pub mod Numbers
+mod Chains
 mod Doubling
 pub mod Merging
 pub mod Mirrors

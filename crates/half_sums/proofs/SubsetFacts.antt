@@ -1,10 +1,10 @@
 -- What one more chair does to the entries of a half, and how many and how large they are.
-use Rattle.std.proofs.Common.{◌≡◌, ℕ, ◌+◌, ◌-◌, ◌*◌, ◌^◌, ◌%◌, ◌<◌, ◌≤◌, List, [], ◌∷◌, ◌++◌, length, map, take, drop, get_or, arith, refl, sym, ap, ◌∙◌, eqb, true, zero, suc}
+use Rattle.std.proofs.Common.{◌≡◌, ℕ, ◌+◌, ◌-◌, ◌*◌, ◌^◌, ◌/◌, ◌%◌, ◌<◌, ◌≤◌, List, [], ◌∷◌, ◌++◌, length, map, take, drop, get_or, arith, refl, ap, ◌∙◌, eqb, true, zero, suc}
 use Rattle.std.specs.List.{All, sum_by, IsDistinct, list_any}
 use Rattle.std.specs.List.Sorted.{IsPermutation, IsNonDecreasingBy}
-use Rattle.std.specs.Prelude.{bit_or}
-use Rattle.std.proofs.lemmas.List.{take_all, length-append, length-map, map-append, drop_more, drop-map, length-drop}
-use Rattle.std.proofs.lemmas.List.Elements.{All-append, All-map, All-weaker, All-cons, All-nil, All-contains}
+use Rattle.std.specs.Prelude.{bit_or, bit_and}
+use Rattle.std.proofs.lemmas.List.{take_all, length-take-le, length-append, length-map, map-append, drop_more, drop-map, length-drop}
+use Rattle.std.proofs.lemmas.List.Elements.{All-head, All-tail, All-append, All-map, All-weaker, All-cons, All-nil, All-contains}
 use Rattle.std.proofs.lemmas.Map.Views.{Contains-from_any}
 use Rattle.std.proofs.lemmas.Bool.{eqb-true}
 use Rattle.std.proofs.lemmas.List.Sums.{sum_by-cons, sum_by-take-drop}
@@ -17,8 +17,8 @@ use Rattle.half_sums.specs.declared.entry.Entry.{Entry}
 use Rattle.council_core.specs.Sheets.{weight_of}
 use Rattle.council_core.specs.Coalitions.{subsets}
 use Rattle.half_sums.specs.Masks.{mask_of}
-use Rattle.half_sums.specs.Entries.{entry_with, entry_of, entries_of, entries_from, first_entries, AreSubsets, IsHalf}
-use Rattle.half_sums.proofs.Columns.{length_first}
+use Rattle.half_sums.specs.Entries.{entry_with, entry_of, entries_of, entries_from, set_of, chair_number, AreSubsets, IsHalf}
+use Rattle.half_sums.proofs.Numbers.{length-entries, sets_with}
 use Rattle.half_sums.specs.declared.groups.TheConstants.{SLOTS}
 use Rattle.half_sums.specs.declared.lists.TheConstants.{ROOM}
 
@@ -91,13 +91,12 @@ room_left chairs at es are some within =
     let bound : 2 ^ suc left ≤ 2 ^ length chairs = pow-le-pow_right (omega arith) more in
     omega (arith, length_of_half (drop at chairs) es are, pow-suc 2 left, bound)
 
--- a list of all sets takes the whole of slices that are as long as that
-pub all_sets : (chairs : List (ℕ × ℕ)) (count : ℕ) (sums masks : List ℕ) → AreSubsets chairs (first_entries count sums masks) → count ≤ 2 ^ length chairs
-    → length sums ≡ 2 ^ length chairs → length masks ≡ 2 ^ length chairs → first_entries count sums masks ≡ entries_from sums masks
-all_sets chairs count sums masks are bound in_sums in_masks =
-    let all : count ≡ 2 ^ length chairs = sym (length_first count sums masks (omega (arith, in_sums)) (omega (arith, in_masks))) ∙ length_of_half chairs _ are in
-    ap (λ s. entries_from s (take count masks)) (take_all count sums (omega (arith, all, in_sums)))
-    ∙ ap (entries_from sums) (take_all count masks (omega (arith, all, in_masks)))
+-- a list of all sets takes the whole of a slice that is as long as that
+pub all_sets : (chairs : List (ℕ × ℕ)) (full count : ℕ) (words : List ℕ) → AreSubsets chairs (entries_from full (take count words)) → count ≤ 2 ^ length chairs
+    → length words ≡ 2 ^ length chairs → take count words ≡ words
+all_sets chairs full count words are bound room =
+    let all : count ≡ 2 ^ length chairs = omega (arith, length_of_half chairs _ are, length-entries full (take count words), length-take-le count words (omega (arith, room))) in
+    take_all count words (omega (arith, all, room))
 
 pub drop_back : (chairs : List (ℕ × ℕ)) (at : ℕ) → 0 < at → at ≤ length chairs → drop (at - 1) chairs ≡ get_or chairs (at - 1) (0, 0) ∷ drop at chairs
 drop_back chairs at some within =
@@ -148,3 +147,19 @@ IsHalf-more es out weight bit half slot room small moves up =
       small = All-permutation P _ _ moves (All-append P es _ half.small (All-map P (entry_with weight bit) es small));
       slots = All-permutation Q _ _ moves (All-append Q es _ half.slots (All-map Q (entry_with weight bit) es (All-weaker Q (λ e. Q (entry_with weight bit e)) (λ e h. or_lt SLOTS e.mask bit h slot) es half.slots)));
     }
+
+-- a doubled list of numbers is one of sets
+pub sets_doubled : (numbers out : List ℕ) (weight bit : ℕ) → bit < 2 ^ SLOTS → All (λ e. bit_and e.mask bit ≡ 0) (map set_of numbers) → IsPermutation (numbers ++ map (λ n. n + chair_number weight bit) numbers) out
+    → IsPermutation (map set_of numbers ++ map (entry_with weight bit) (map set_of numbers)) (map set_of out)
+sets_doubled numbers out weight bit small free moves =
+    let joined : List ℕ = map (λ n. n + chair_number weight bit) numbers in
+    let sets : map set_of (numbers ++ joined) ≡ map set_of numbers ++ map (entry_with weight bit) (map set_of numbers) = map-append set_of numbers joined ∙ ap (λ es. map set_of numbers ++ es) (sets_with numbers weight bit small free) in
+    rw sets at (IsPermutation-map set_of _ _ moves)
+
+-- what one more chair adds to the numbers of sets fits 65 bits
+pub numbers_small : (numbers : List ℕ) (weight bit : ℕ) → bit < 2 ^ SLOTS → All (λ e. e.sum + weight ≤ 2 ^ 48) (map set_of numbers) → All (λ n. n + chair_number weight bit < 2 ^ 65) numbers
+numbers_small [] weight bit small fit = All-nil (λ n. n + chair_number weight bit < 2 ^ 65)
+numbers_small (n ∷ ns) weight bit small fit =
+    let P : Entry → Type 0 = λ e. e.sum + weight ≤ 2 ^ 48 in
+    let here : n / 2 ^ SLOTS + weight ≤ 2 ^ 48 = All-head P (set_of n) (map set_of ns) fit in
+    All-cons (λ n. n + chair_number weight bit < 2 ^ 65) n ns (omega (arith, here)) (numbers_small ns weight bit small (All-tail P (set_of n) (map set_of ns) fit))

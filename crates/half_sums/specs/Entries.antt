@@ -1,8 +1,7 @@
 -- Entries: the sets of a half's chairs by weight and slots, as lists of subset sums (Horowitz and
 -- Sahni 1974).
-use Rattle.std.specs.Prelude.{ℕ, ◌+◌, ◌^◌, ◌<◌, ◌≤◌, List, [], ◌∷◌, map}
-use Rattle.std.specs.Prelude.{length, take, bit_or}
-use Rattle.std.specs.Simd.Lanes.{zip2}
+use Rattle.std.specs.Prelude.{ℕ, ◌+◌, ◌*◌, ◌/◌, ◌%◌, ◌^◌, ◌<◌, ◌≤◌, List, [], ◌∷◌, ◌++◌, map}
+use Rattle.std.specs.Prelude.{length, take, drop, slice_index_or, bit_or}
 use Rattle.std.specs.List.{All}
 use Rattle.std.specs.List.Sorted.{IsPermutation, IsNonDecreasingBy}
 use Rattle.half_sums.specs.declared.entry.Entry.{Entry}
@@ -25,13 +24,22 @@ entries_of chairs = map entry_of (subsets chairs)
 abbrev pub entry_with : ℕ → ℕ → Entry → Entry
 entry_with weight bit e = record { sum = e.sum + weight; mask = bit_or e.mask bit }
 
--- the entries whose sums and masks are in two lists
-abbrev pub entries_from : List ℕ → List ℕ → List Entry
-entries_from sums masks = zip2 (λ sum mask. record { sum = sum; mask = mask }) sums masks
+-- the set of a number, which is the set's votes times 2^16, plus its mask
+abbrev pub set_of : ℕ → Entry
+set_of number = record { sum = number / 2 ^ SLOTS; mask = number % 2 ^ SLOTS }
 
--- the entries of the first `count` sums and masks
-abbrev pub first_entries : ℕ → List ℕ → List ℕ → List Entry
-first_entries count sums masks = entries_from (take count sums) (take count masks)
+-- what a chair with this weight and bit adds to the number of a set that it joins
+abbrev pub chair_number : ℕ → ℕ → ℕ
+chair_number weight bit = weight * 2 ^ SLOTS + bit
+
+-- the numbers of sets in words of 64 bits: those from index `full` on are 2^64 greater than their
+-- words
+abbrev pub numbers_from : ℕ → List ℕ → List ℕ
+numbers_from full words = take full words ++ map (λ word. word + 2 ^ 64) (drop full words)
+
+-- the sets in such words
+abbrev pub entries_from : ℕ → List ℕ → List Entry
+entries_from full words = map set_of (numbers_from full words)
 
 -- each subset of the chairs once, ascending by sum
 pub record AreSubsets (chairs : List (ℕ × ℕ)) (entries : List Entry) : Type 0 where
@@ -49,6 +57,10 @@ pub record IsHalf (entries : List Entry) : Type 0 where
 -- the default entry, for an index at which there is none
 abbrev pub zero_entry : Entry
 zero_entry = record { sum = 0; mask = 0 }
+
+-- the entry at an index
+abbrev pub entry_at : List Entry → ℕ → Entry
+entry_at entries index = slice_index_or entries index zero_entry
 
 -- worked example: chairs of 50, 49 and 1 votes
 abbrev pub three_chairs : List (ℕ × ℕ)

@@ -1,54 +1,60 @@
-//! Lists of sets over borrowed slices.
-ghost use Rattle.std.specs.Prelude.{◌≡◌, ◌==◌, ℕ, ◌+◌, ◌-◌, ◌<◌, ◌≤◌, List, length, set};
+//! Lists of sets over borrowed slices of words.
+//!
+//! A word has a set's votes from bit 16 on, and its mask below. The word of a set with all
+//! `MAX_TOTAL` votes, which can only be the last ones of a list, lacks their one bit, which would be
+//! the 65th.
+ghost use Rattle.std.specs.Prelude.{◌≡◌, ◌==◌, ◌<◌, List, length, IsTrue};
 ghost use Rattle.std.specs.Prelude.{slice_index_or};
+ghost use Rattle.std.specs.List.{All};
+ghost use Rattle.council_core.specs.declared.limits.TheConstants.{MAX_TOTAL};
 ghost use Rattle.half_sums.specs.declared.entry.Entry.{Entry};
-ghost use Rattle.half_sums.specs.Entries.{entries_from, zero_entry, IsHalf};
+ghost use Rattle.half_sums.specs.Entries.{entries_from, set_of, zero_entry, IsHalf};
 
 use crate::Entry;
+use council_core::MAX_TOTAL;
 use std::marker::Model;
 
 /// The length of the slices that hold the list of a half: 2^16, the number of sets of sixteen
 /// chairs.
 pub const ROOM: usize = 65_536;
 
-/// The read-only list of a half, over two borrowed slices, one of sums and one of masks: at most
-/// `ROOM` sets, ascending by sum, no sum above `MAX_TOTAL`. A set takes ten bytes in this form and
-/// sixteen as an `Entry`.
+/// The read-only list of a half, over a borrowed slice with one word for each set: at most `ROOM`
+/// sets, ascending by sum, no sum above `MAX_TOTAL`.
 #[derive(Debug, Drop)]
 pub struct SumList<'a> {
-    sums: &'a [u64],
-    masks: &'a [u16],
+    words: &'a [u64],
+    // The index of the first set with `MAX_TOTAL` votes, or the number of sets.
+    full: usize,
 }
 
 impl<'a> Model for SumList<'a> {
     ghost Value = { List Entry };
 
-    ghost view = { λ l. entries_from l.sums.now l.masks.now };
+    ghost view = { λ l. entries_from l.full l.words.now };
 
-    ghost invariant = { λ l. (length l.sums.now ≡ length l.masks.now)
-        × IsHalf (entries_from l.sums.now l.masks.now) };
+    ghost invariant = { λ l. IsHalf (entries_from l.full l.words.now) };
 }
 
 impl<'a> SumList<'a> {
-    /// The list whose set at each index has the sum and the mask at that index of the slices.
-    pub fn over(sums: &'a [u64], masks: &'a [u16]) -> SumList<'a>
-        requires same { length sums.now ≡ length masks.now }
-        requires half { IsHalf (entries_from sums.now masks.now) }
-        ensures entries { result ≡ entries_from sums.now masks.now }
+    // The list of the sets in these words, of which those from index `full` on have `MAX_TOTAL`
+    // votes.
+    pub(crate) fn over(words: &'a [u64], full: usize) -> SumList<'a>
+        requires half { IsHalf (entries_from full words.now) }
+        ensures entries { result ≡ entries_from full words.now }
     {
-        SumList { sums, masks }
+        SumList { words, full }
     }
 
-    /// A copy of the two references, not of the sets. A loop over a copy in its own frame does not
-    /// load the addresses of the slices at each step.
+    /// A copy of the reference, not of the sets. A loop over a copy in its own frame does not load
+    /// the address of the slice at each step.
     #[inline(always)]
     pub fn copy(&self) -> SumList<'a>
         ensures same { result ≡ self.now }
         ensures half { IsHalf result }
     {
         SumList {
-            sums: self.sums,
-            masks: self.masks,
+            words: self.words,
+            full: self.full,
         }
     }
 
@@ -57,7 +63,7 @@ impl<'a> SumList<'a> {
         ensures count { result ≡ length self.now }
         ensures half { IsHalf self.now }
     {
-        self.sums.len()
+        self.words.len()
     }
 
     /// Whether the list has no set. That of a half has at least the empty one.
@@ -73,51 +79,44 @@ impl<'a> SumList<'a> {
         ensures same { result ≡ slice_index_or self.now index zero_entry }
         ensures half { IsHalf self.now }
     {
-        let (sums, masks) = (self.sums, self.masks);
+        let (words, full) = (self.words, self.full);
+        let set = entry_of(words[index]);
+        if index < full {
+            return set;
+        }
         Entry {
-            sum: sums[index],
-            mask: masks[index],
+            sum: set.sum + MAX_TOTAL,
+            mask: set.mask,
         }
     }
-}
 
-// Writes a set at this index of a list.
-#[inline(always)]
-pub(crate) fn put(sums: &mut [u64], masks: &mut [u16], index: usize, entry: Entry)
-    requires sums { index < length sums.old }
-    requires masks { index < length masks.old }
-    ensures written { entries_from sums.new masks.new ≡ set (entries_from sums.old masks.old) index entry }
-    ensures sums_room { length sums.new ≡ length sums.old }
-    ensures masks_room { length masks.new ≡ length masks.old }
-{
-    sums[index] = entry.sum;
-    masks[index] = entry.mask;
-}
+    /// Whether each set has less than `MAX_TOTAL` votes.
+    pub fn is_below_limit(&self) -> bool
+        ensures below { IsTrue result → All (λ e. e.sum < MAX_TOTAL) self.now }
+    {
+        self.is_empty() || self.at(self.len() - 1).sum < MAX_TOTAL
+    }
 
-// Writes the sums of the complements of these sets in reverse order: that of the first set last.
-#[inline(never)]
-pub(crate) fn complement_sums(all: u64, sums: &[u64], complements: &mut [u64])
-    requires same { length complements.old ≡ length sums.now }
-    requires small { (i : ℕ) → i < length sums.now → slice_index_or sums.now i 0 ≤ all }
-    ensures complements { (i j : ℕ) → i + j + 1 ≡ length sums.now
-        → slice_index_or complements.new j 0 ≡ all - slice_index_or sums.now i 0 }
-    ensures room { length complements.new ≡ length complements.old }
-{
-    for index in 0..sums.len() {
-        complements[sums.len() - 1 - index] = all - sums[index];
+    /// Like `at`, for a list whose sets have less than `MAX_TOTAL` votes: a step of a loop that calls
+    /// this takes less time.
+    #[inline(always)]
+    pub fn at_below_limit(&self, index: usize) -> Entry
+        requires within { index < length self.now }
+        requires below { All (λ e. e.sum < MAX_TOTAL) self.now }
+        ensures same { result ≡ slice_index_or self.now index zero_entry }
+    {
+        let words = self.words;
+        entry_of(words[index])
     }
 }
 
-// Writes the masks of the complements of these sets in reverse order: that of the first set last.
-#[inline(never)]
-pub(crate) fn complement_masks(all: u16, masks: &[u16], complements: &mut [u16])
-    requires same { length complements.old ≡ length masks.now }
-    requires small { (i : ℕ) → i < length masks.now → slice_index_or masks.now i 0 ≤ all }
-    ensures complements { (i j : ℕ) → i + j + 1 ≡ length masks.now
-        → slice_index_or complements.new j 0 ≡ all - slice_index_or masks.now i 0 }
-    ensures room { length complements.new ≡ length complements.old }
+// The set in a word.
+#[inline(always)]
+fn entry_of(word: u64) -> Entry
+    ensures set { result ≡ set_of word }
 {
-    for index in 0..masks.len() {
-        complements[masks.len() - 1 - index] = all - masks[index];
+    Entry {
+        sum: word >> 16,
+        mask: (word % 65_536) as u16,
     }
 }

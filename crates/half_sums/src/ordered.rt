@@ -20,22 +20,22 @@ use std::marker::Model;
 /// own memory. The memory is allocated once and cannot grow, so a rebuild allocates nothing.
 #[derive(Debug, Drop)]
 pub struct OrderedSums {
-    sums: Vec<u64>,
-    masks: Vec<u16>,
+    words: Vec<u64>,
+    // The index of the first set with `MAX_TOTAL` votes, or the number of sets.
+    full: usize,
 }
 
 impl Model for OrderedSums {
     ghost Value = { List Entry };
 
-    ghost view = { λ l. entries_from l.sums.items l.masks.items };
+    ghost view = { λ l. entries_from l.full l.words.items };
 
-    ghost invariant = { λ l. (length l.sums.items ≡ length l.masks.items) × (ROOM ≤ vec_capacity l.sums)
-        × (ROOM ≤ vec_capacity l.masks) × IsHalf (entries_from l.sums.items l.masks.items) };
+    ghost invariant = { λ l. (ROOM ≤ vec_capacity l.words) × IsHalf (entries_from l.full l.words.items) };
 }
 
 impl OrderedSums {
     /// The half with no chair, whose only set is the empty one. This allocates, once, room for
-    /// `ROOM` sets of ten bytes each, which is enough for every half. The system supplies that
+    /// `ROOM` sets of eight bytes each, which is enough for every half. The system supplies that
     /// memory page by page, as the lists need it.
     ///
     /// # Errors
@@ -45,11 +45,9 @@ impl OrderedSums {
         ensures empty { IfOk result (λ sums. sums ≡ record { sum = 0; mask = 0 } ∷ []) }
         ensures memory { IsOkUnless result OutOfMemory }
     {
-        let mut sums = Vec::with_capacity(alloc, ROOM)?;
-        let mut masks = Vec::with_capacity(alloc, ROOM)?;
-        sums.push(0)?;
-        masks.push(0)?;
-        Ok(OrderedSums { sums, masks })
+        let mut words = Vec::with_capacity(alloc, ROOM)?;
+        words.push(0)?;
+        Ok(OrderedSums { words, full: 1 })
     }
 
     /// The sets of the half's chairs, ascending by sum. Sets with equal sums are in no specified
@@ -58,7 +56,7 @@ impl OrderedSums {
         ensures same { result ≡ self.now }
         ensures half { IsHalf result }
     {
-        SumList::over(self.sums.as_slice(), self.masks.as_slice())
+        SumList::over(self.words.as_slice(), self.full)
     }
 
     /// Replaces the list by the sets of these chairs. A chair is its slot, from 0 to 15, and its
@@ -69,54 +67,61 @@ impl OrderedSums {
         requires small { weight_of chairs.now ≤ MAX_TOTAL }
         ensures subsets { AreSubsets chairs.now self.new }
     {
-        let count = 1usize << chairs.len();
-        set_length(&mut self.sums, count, 0);
-        set_length(&mut self.masks, count, 0);
-        let (sums, masks) = (self.sums.as_mut_slice(), self.masks.as_mut_slice());
-        list_subsets(chairs, sums, masks);
+        set_length(&mut self.words, 1usize << chairs.len());
+        self.full = fill(chairs, self.words.as_mut_slice());
     }
 }
 
-// Sets the length of a column that has room for `count` items. It leaves the items unspecified.
-fn set_length<T: Copy>(column: &mut Vec<T>, count: usize, zero: T)
-    requires room { count ≤ vec_capacity column.old }
-    ensures count { vec_len column.new ≡ count }
-    ensures room { vec_capacity column.old ≤ vec_capacity column.new }
+// Sets the length of a vector that has room for `count` words. It leaves the words unspecified.
+fn set_length(words: &mut Vec<u64>, count: usize)
+    requires room { count ≤ vec_capacity words.old }
+    ensures count { vec_len words.new ≡ count }
+    ensures room { vec_capacity words.old ≤ vec_capacity words.new }
 {
-    match column.resize(count, zero) {
+    match words.resize(count, 0) {
         Ok(()) => {}
         Err(_) => unreachable!(),
     }
 }
 
-/// Writes the sets of these chairs, ascending by sum, to two borrowed slices, which have one item
-/// for each set. The previous contents of the slices have no effect and are lost. A chair is its
-/// slot, from 0 to 15, and its weight in votes.
+/// Lists the sets of these chairs, ascending by sum, in a borrowed slice, which has one word for
+/// each set. The previous contents of the slice have no effect and are lost. A chair is its slot,
+/// from 0 to 15, and its weight in votes.
 ///
 /// ```rust
 /// let chairs = [(0, 50), (1, 49), (2, 1)];
-/// list_subsets(&chairs, &mut sums, &mut masks); // two slices of 8 items
-/// assert_eq!(rt; (sums[7], masks[7]), (100, 0b111));
+/// let list = list_subsets(&chairs, &mut words); // a slice of 8 words
+/// assert_eq!(rt; list.at(7), Entry { sum: 100, mask: 0b111 });
 /// ```
-pub fn list_subsets(chairs: &[(u8, u64)], sums: &mut [u64], masks: &mut [u16])
+pub fn list_subsets<'a>(chairs: &[(u8, u64)], words: &'a mut [u64]) -> SumList<'a>
     requires slots { All (λ chair. chair.0 < SLOTS) chairs.now }
     requires distinct { IsDistinct (λ a b. a == b) (map (λ chair. chair.0) chairs.now) }
     requires small { weight_of chairs.now ≤ MAX_TOTAL }
-    requires sums_room { length sums.old ≡ 2 ^ length chairs.now }
-    requires masks_room { length masks.old ≡ 2 ^ length chairs.now }
-
-    // The resulting list.
-    ensures subsets { AreSubsets chairs.now (entries_from sums.new masks.new) }
-    ensures half { IsHalf (entries_from sums.new masks.new) }
-    ensures sums_room { length sums.new ≡ length sums.old }
-    ensures masks_room { length masks.new ≡ length masks.old }
+    requires room { length words.old ≡ 2 ^ length chairs.now }
+    ensures subsets { AreSubsets chairs.now result }
+    ensures half { IsHalf result }
 {
-    sums[0] = 0;
-    masks[0] = 0;
-    let mut count = 1;
+    let full = fill(chairs, words);
+    SumList::over(words, full)
+}
+
+// Writes the words of the sets of these chairs, ascending. Returns the index of the first set with
+// `MAX_TOTAL` votes, or the number of sets.
+fn fill(chairs: &[(u8, u64)], words: &mut [u64]) -> usize
+    requires slots { All (λ chair. chair.0 < SLOTS) chairs.now }
+    requires distinct { IsDistinct (λ a b. a == b) (map (λ chair. chair.0) chairs.now) }
+    requires small { weight_of chairs.now ≤ MAX_TOTAL }
+    requires room { length words.old ≡ 2 ^ length chairs.now }
+    ensures subsets { AreSubsets chairs.now (entries_from result words.new) }
+    ensures half { IsHalf (entries_from result words.new) }
+    ensures room { length words.new ≡ length words.old }
+{
+    words[0] = 0;
+    let (mut count, mut full) = (1, 1);
     for at in (0..chairs.len()).rev() {
         let (slot, weight) = chairs[at];
-        double(count, weight, 1u16 << slot, sums, masks);
+        full = double(count, full, weight, 1u16 << slot, words);
         count = 2 * count;
     }
+    full
 }

@@ -46,7 +46,7 @@ impl Model for HalfSums {
 
 impl HalfSums {
     /// The half with no chair, whose only set is the empty one. This allocates, once, room for two
-    /// lists of `ROOM` sets, one with ten bytes for each set and one with sixteen, which is enough
+    /// lists of `ROOM` sets, one with eight bytes for each set and one with sixteen, which is enough
     /// for every half.
     ///
     /// # Errors

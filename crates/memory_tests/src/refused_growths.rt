@@ -35,7 +35,7 @@ pub(crate) fn with_commands(alloc: Global, commands: u8) -> Result<Register, Ref
     Ok(register)
 }
 
-// Nine members and four commands, which fill the first room of both lists: chairs 1, 3 and 4 are
+// Nine members and four commands, which fill the first room of the journal: chairs 1, 3 and 4 are
 // open, and BBB is suspended.
 fn with_four(alloc: Global) -> Result<Register, Refusal> {
     let mut members = Vec::new(alloc);
@@ -50,19 +50,19 @@ fn with_four(alloc: Global) -> Result<Register, Refusal> {
     Ok(register)
 }
 
-// Each command, as that register accepts it, with the number of lists that it makes grow.
-fn each_command() -> Result<[(Command, usize); 8], Refusal> {
+// Each command, as that register accepts it. It makes the journal grow.
+fn each_command() -> Result<[Command; 8], Refusal> {
     let (first, second) = (MemberCode::new(b"AAA")?, MemberCode::new(b"BBB")?);
     let admitted = MemberCode::new(b"DDD")?;
     Ok([
-        (open(2)?, 1),
-        (Command::Close(ChairId::new(1)?), 1),
-        (seat("AAA", 1)?, 1),
-        (set_votes("AAA", 7)?, 1),
-        (Command::Suspend(first), 1),
-        (Command::Restore(second), 1),
-        (Command::Withdraw(second), 1),
-        (Command::Admit(admitted, Votes::new(7)?), 2),
+        open(2)?,
+        Command::Close(ChairId::new(1)?),
+        seat("AAA", 1)?,
+        set_votes("AAA", 7)?,
+        Command::Suspend(first),
+        Command::Restore(second),
+        Command::Withdraw(second),
+        Command::Admit(admitted, Votes::new(7)?),
     ])
 }
 
@@ -72,12 +72,9 @@ fn register_calls(rt: HostRuntime) -> Result<(), Fail> {
     let alloc = rt.alloc();
     let begin = |_: &mut ()| Ok(Register::start(alloc, &two_members()?, 100)?.accepted());
     assert!(rt; survives(alloc, 2, |_| Ok(()), begin, Ok(0))?);
-    for (command, growths) in each_command()? {
+    for command in each_command()? {
         let apply = |register: &mut Register| register.apply(command);
-        assert!(rt;
-            survives(alloc, growths, with_four, apply, Ok(5))?,
-            "{command:?}"
-        );
+        assert!(rt; survives(alloc, 1, with_four, apply, Ok(5))?, "{command:?}");
     }
     Ok(())
 }
@@ -127,11 +124,11 @@ fn machine_calls(rt: HostRuntime) -> Result<(), Fail> {
 fn counting_calls(rt: HostRuntime) -> Result<(), Fail> {
     let alloc = rt.alloc();
     let ordered = |_: &mut ()| Ok(OrderedSums::new(alloc)?.ascending().len());
-    assert!(rt; survives(alloc, 2, |_| Ok(()), ordered, Ok(1))?);
+    assert!(rt; survives(alloc, 1, |_| Ok(()), ordered, Ok(1))?);
     let half = |_: &mut ()| Ok(HalfSums::new(alloc)?.ascending().len());
-    assert!(rt; survives(alloc, 3, |_| Ok(()), half, Ok(1))?);
+    assert!(rt; survives(alloc, 2, |_| Ok(()), half, Ok(1))?);
     let evaluator = |_: &mut ()| Ok(Evaluator::new(alloc)?.sheet().chairs());
-    assert!(rt; survives(alloc, 4, |_| Ok(()), evaluator, Ok(0))?);
+    assert!(rt; survives(alloc, 2, |_| Ok(()), evaluator, Ok(0))?);
     Ok(())
 }
 
@@ -232,7 +229,7 @@ fn board_calls(rt: HostRuntime) -> Result<(), Fail> {
         assert!(rt; survives(alloc, 3, kept, begin, Ok(usize::from(readers)))?);
         let last = |alloc| Ok(Some(last_reader(alloc, register(alloc)?, readers)?));
         let analyse = |kept: &mut Option<Reader>| make_analyst(alloc, kept);
-        assert!(rt; survives(alloc, 4, last, analyse, Ok(readers))?);
+        assert!(rt; survives(alloc, 2, last, analyse, Ok(readers))?);
     }
     let board = |alloc| board_over(alloc, register(alloc)?, 2);
     let submit = |board: &mut (Writer, Vec<Reader>)| submit_open(&mut board.0, 1);

@@ -15,8 +15,8 @@ use std::marker::Model;
 
 /// A sheet, with the lists from which its indices are counted.
 ///
-/// `new` allocates all memory: for each half a list of 65,536 sets of ten bytes, 1,310,720 bytes in
-/// total. No other call allocates.
+/// `new` allocates all memory: for each half a list of 65,536 sets of eight bytes, 1,048,576 bytes
+/// in total. No other call allocates.
 #[derive(Debug, Drop)]
 pub struct Evaluator {
     sheet: Sheet,

@@ -19,29 +19,21 @@ use std::marker::Model;
 #[repr(C)]
 #[derive(Drop)]
 pub struct ListRoom {
-    /// The sums of the left half's sets.
-    pub left_sums: [u64; ROOM],
-    /// The sums of the right half's sets.
-    pub right_sums: [u64; ROOM],
-    /// The masks of the left half's sets.
-    pub left_masks: [u16; ROOM],
-    /// The masks of the right half's sets.
-    pub right_masks: [u16; ROOM],
+    /// The words of the left half's sets.
+    pub left: [u64; ROOM],
+    /// The words of the right half's sets.
+    pub right: [u64; ROOM],
 }
 
 impl ListRoom {
-    /// Room filled with zeros: 1,310,720 bytes, by value.
+    /// Room filled with zeros: 1,048,576 bytes, by value.
     pub fn new() -> ListRoom
-        ensures left_sums { result.left_sums ≡ replicate ROOM 0 }
-        ensures right_sums { result.right_sums ≡ replicate ROOM 0 }
-        ensures left_masks { result.left_masks ≡ replicate ROOM 0 }
-        ensures right_masks { result.right_masks ≡ replicate ROOM 0 }
+        ensures left { result.left ≡ replicate ROOM 0 }
+        ensures right { result.right ≡ replicate ROOM 0 }
     {
         ListRoom {
-            left_sums: [0; ROOM],
-            right_sums: [0; ROOM],
-            left_masks: [0; ROOM],
-            right_masks: [0; ROOM],
+            left: [0; ROOM],
+            right: [0; ROOM],
         }
     }
 }
@@ -82,10 +74,9 @@ impl<'a> LentEvaluator<'a> {
         let _words = sheet.words();
         let weights = weights_of(sheet);
         let (on_left, on_right) = weights.as_slice().split_at(on_left(weights.len()));
-        let (left_sums, left_masks) = (&mut room.left_sums, &mut room.left_masks);
-        let (right_sums, right_masks) = (&mut room.right_sums, &mut room.right_masks);
-        let left = listed(on_left, left_sums, left_masks);
-        let right = listed(on_right, right_sums, right_masks);
+        let (left, right) = (&mut room.left, &mut room.right);
+        let left = listed(on_left, left);
+        let right = listed(on_right, right);
         LentEvaluator {
             sheet: *sheet,
             left,
@@ -103,16 +94,13 @@ impl<'a> LentEvaluator<'a> {
     }
 }
 
-// Lists the sets of the chairs with these weights in borrowed slices.
-fn listed<'a>(weights: &[u64], sums: &'a mut [u64], masks: &'a mut [u16]) -> SumList<'a>
+// Lists the sets of the chairs with these weights in a borrowed slice.
+fn listed<'a>(weights: &[u64], words: &'a mut [u64]) -> SumList<'a>
     requires bound { length weights.now ≤ SLOTS }
     requires small { sum_by (λ n. n) weights.now ≤ MAX_TOTAL }
-    requires sums_room { length sums.old ≡ ROOM }
-    requires masks_room { length masks.old ≡ ROOM }
+    requires room { length words.old ≡ ROOM }
     ensures subsets { AreSubsets (chairs_from_slot 0 weights.now) result }
 {
     let count = 1usize << weights.len();
-    let (sums, masks) = (&mut sums[..count], &mut masks[..count]);
-    list_subsets(chairs_of(weights).as_slice(), sums, masks);
-    SumList::over(sums, masks)
+    list_subsets(chairs_of(weights).as_slice(), &mut words[..count])
 }

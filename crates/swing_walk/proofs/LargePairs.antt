@@ -12,7 +12,6 @@ use Rattle.half_sums.specs.Groups.{size_of}
 use Rattle.half_sums.specs.declared.lists.TheConstants.{ROOM}
 use Rattle.swing_walk.specs.Pairs.{pairs_where, reaches, has_slot, is_large, is_enough, with_slot}
 use Rattle.swing_walk.specs.Sizes.{partners_next, partners_of}
-use Rattle.swing_walk.specs.Walks.{position_after}
 use Rattle.swing_walk.specs.declared.positions.Next.{Next}
 use Rattle.swing_walk.specs.declared.positions.Position.{Position}
 use Rattle.swing_walk.specs.declared.positions.Route.{Route}
@@ -28,9 +27,9 @@ partners-any : (least mask : ℕ) (entries : List Entry) → least ≡ 0 → par
 partners-any least mask entries none =
     count_agree (λ e. nat_le least (count_ones mask + size_of e)) (λ e. true) entries (λ k d h. le-leb least _ (omega (arith, none))) ∙ count_all entries
 
--- by the position of a chain, once the set is passed
-pub any_partners : (falls : Bool) (next : Next) (route : Route) (position : Position) → route.least_size ≡ 0 → let after : Position = position_after falls position in
-    cond falls (length route.rising - after.up) (length route.falling - after.rest) ≡ partners_next falls next route position
+-- by the position of a chain, before the set is passed
+pub any_partners : (falls : Bool) (next : Next) (route : Route) (position : Position) → route.least_size ≡ 0 →
+    cond falls (length route.rising - position.up) (length route.falling - position.rest) ≡ partners_next falls next route position
 any_partners true next route position none = omega (arith, partners-any route.least_size next.high.mask (drop position.up route.rising) none, length-drop position.up route.rising)
 any_partners false next route position none = omega (arith, partners-any route.least_size next.low.mask (drop position.rest route.falling) none, length-drop position.rest route.falling)
 

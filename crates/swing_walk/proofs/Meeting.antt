@@ -1,16 +1,15 @@
 -- A walk's steps, and that two walks from its ends meet.
-use Rattle.std.proofs.Common.{◌≡◌, ℕ, ◌+◌, ◌-◌, ◌*◌, ◌<◌, ◌≤◌, Bool, true, false, cond, not, List, length, take, drop, arith, sym, ap, subst, inl, inr, ◌∙◌, ltb}
+use Rattle.std.proofs.Common.{◌≡◌, ℕ, ◌+◌, ◌-◌, ◌*◌, ◌<◌, ◌≤◌, Bool, true, false, cond, not, List, length, take, drop, get_or, arith, sym, ap, subst, inl, inr, ◌∙◌, ltb}
 use Rattle.std.specs.Prelude.{◌&&◌, ◌||◌, nat_le}
 use Rattle.std.specs.List.{count_by}
 use Rattle.std.specs.List.Sorted.{IsNonDecreasingBy}
 use Rattle.std.specs.Int.{bit_at}
 use Rattle.std.proofs.lemmas.Bool.{cases_lt, lt-ltb, le-ltb, ltb-true, leb-true, leb-false, and_parts, or_parts}
-use Rattle.std.proofs.lemmas.List.{length-take, length-drop, get_or-take, get_or-drop}
+use Rattle.std.proofs.lemmas.List.{length-take, length-drop, get_or-take, get_or-drop, get_or_default}
 use Rattle.std.proofs.lemmas.List.Sums.{sum_by-drop_more, sum_by-take-drop}
 use Rattle.half_sums.specs.declared.entry.Entry.{Entry}
 use Rattle.half_sums.specs.Entries.{zero_entry}
-use Rattle.half_sums.proofs.Merging.{sum_default}
-use Rattle.half_sums.specs.Merges.{entry_at}
+use Rattle.half_sums.specs.Entries.{entry_at}
 use Rattle.swing_walk.specs.Pairs.{pairs_where, with_slot}
 use Rattle.swing_walk.specs.Sizes.{partners_next}
 use Rattle.swing_walk.specs.Walks.{IsBetween, IsPassed, HasCredited, PartnerCounts, StandsAt, enough, position_after, turned_route, votes_at}
@@ -22,6 +21,10 @@ use Rattle.swing_walk.specs.declared.positions.Route.{Route}
 use Rattle.swing_walk.specs.declared.tally.MaskTally.{MaskTally}
 use Rattle.swing_walk.proofs.Counting.{Splits, pairs_more}
 use Rattle.swing_walk.proofs.LargePairs.{count_enough, count_slot}
+
+-- an entry's sum, at any default
+sum_default : (es : List Entry) (i : ℕ) (d e : Entry) → i < length es → (get_or es i d).sum ≡ (get_or es i e).sum
+sum_default es i d e h = ap (λ (x : Entry). x.sum) (get_or_default es i d e h)
 
 -- a step comes to the next position, and adds the partners of the entry that it passes, also at each of that entry's slots
 record Rises (next : Next) (route : Route) (position : Position) : Type 0 where

@@ -8,7 +8,7 @@ use Rattle.std.proofs.lemmas.List.Elements.{All-weaker, All-drop}
 use Rattle.std.proofs.lemmas.List.Sums.{sum_by-cons, sum_by_more, sum_by-drop_more, sum_by-take-drop, count_by-le-length}
 use Rattle.half_sums.specs.declared.entry.Entry.{Entry}
 use Rattle.half_sums.specs.Groups.{size_of, fewer_than}
-use Rattle.half_sums.specs.Merges.{entry_at}
+use Rattle.half_sums.specs.Entries.{entry_at}
 use Rattle.half_sums.proofs.GroupFacts.{sizes_few}
 use Rattle.swing_walk.specs.Sizes.{partners_next, partners_of, at_least, one_at, tally_of_size, CountsBySize}
 use Rattle.swing_walk.specs.Sides.{size_side}

@@ -1,7 +1,7 @@
 -- The position of a walk between a rising and a falling list, and what it has credited.
 use Rattle.std.specs.Prelude.{ℕ, ◌≡◌, ◌+◌, ◌-◌, ◌<◌, ◌≤◌, List, length, take, drop, cond, Bool, true, false}
 use Rattle.half_sums.specs.declared.entry.Entry.{Entry}
-use Rattle.half_sums.specs.Merges.{entry_at}
+use Rattle.half_sums.specs.Entries.{entry_at}
 use Rattle.swing_walk.specs.Pairs.{pairs_where, is_enough, with_slot}
 use Rattle.swing_walk.specs.Tallies.{slot_amount, tally_total}
 use Rattle.swing_walk.specs.Sides.{side}
@@ -84,6 +84,10 @@ at_start route = record { up = 0; rest = length route.falling }
 -- the position after the falling entry is passed, or otherwise the rising one
 abbrev pub position_after : Bool → Position → Position
 position_after falls position = record { up = position.up + cond falls 0 1; rest = position.rest - cond falls 1 0 }
+
+-- the position after `walked` steps, `up` of them up the rising list
+abbrev pub at_step : Route → ℕ → ℕ → Position
+at_step route walked up = record { up = up; rest = length route.falling - walked + up }
 
 -- `passed` entries are passed at this position
 abbrev pub HasPassed : ℕ → Position → List Entry → Type 0

@@ -7,7 +7,7 @@
 //! passed sets.
 ghost use Rattle.std.specs.Prelude.{◌≡◌, ◌+◌, ◌<◌, ◌≤◌, length};
 ghost use Rattle.swing_walk.specs.Sizes.{partners_next, CountsBySize};
-ghost use Rattle.swing_walk.specs.Walks.{IsNext, PartnerCounts, position_after};
+ghost use Rattle.swing_walk.specs.Walks.{IsNext, PartnerCounts, HasPassed, position_after};
 
 use crate::positions::{Next, Position, Route};
 use crate::sides::{FALLING, RISING, count_on};
@@ -20,12 +20,13 @@ pub(crate) trait Partners: Copy {
     // `rest` on.
     ghost counts: { Self → PartnerCounts };
 
-    // Passes the next set, and returns the number of its partners.
-    fn pass(&mut self, route: &Route, position: Position, next: Next) -> u64
+    // Passes the next set after `walked` steps, and returns the number of its partners.
+    fn pass(&mut self, route: &Route, position: Position, walked: usize, next: Next) -> u64
         // The position of the chain.
         requires up { position.up ≤ length route.now.rising }
         requires rest { position.rest ≤ length route.now.falling }
         requires bound { position.up + length route.now.falling < position.rest + ROOM }
+        requires passed { HasPassed walked position route.now.falling }
         requires next { IsNext next route.now position }
         requires counted { counts self.old route.now position }
 
@@ -42,8 +43,8 @@ impl Partners for OfAnySize {
     ghost counts = { λ _ route _. route.least_size ≡ 0 };
 
     #[inline(always)]
-    fn pass(&mut self, route: &Route, position: Position, next: Next) -> u64 {
-        position.after(next.falls).partners(next.falls, route) as u64
+    fn pass(&mut self, route: &Route, position: Position, walked: usize, next: Next) -> u64 {
+        position.partners(next.falls, walked, route) as u64
     }
 }
 
@@ -75,7 +76,7 @@ impl Partners for BySize {
     ghost counts = { λ s. CountsBySize s };
 
     #[inline(always)]
-    fn pass(&mut self, route: &Route, _position: Position, next: Next) -> u64 {
+    fn pass(&mut self, route: &Route, _position: Position, _walked: usize, next: Next) -> u64 {
         let mask = next.mask();
         let lane = lacking(route.least_size, mask);
         let left = route.rising.len()

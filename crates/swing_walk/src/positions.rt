@@ -1,5 +1,5 @@
 //! What a chain walks, its position, and the entry that it passes next.
-ghost use Rattle.std.specs.Prelude.{◌≡◌, ◌+◌, ◌-◌, ◌≤◌, length, cond};
+ghost use Rattle.std.specs.Prelude.{◌≡◌, ◌+◌, ◌-◌, ◌<◌, ◌≤◌, length, cond};
 ghost use Rattle.half_sums.specs.Entries.{IsHalf};
 
 use half_sums::{Entry, ROOM, SumList, either};
@@ -55,7 +55,7 @@ pub(crate) struct Position {
 }
 
 impl Position {
-    ghost use Rattle.swing_walk.specs.Walks.{at_start, position_after};
+    ghost use Rattle.swing_walk.specs.Walks.{at_start, at_step, position_after, HasPassed};
 
     // The position of a chain that has passed no entry.
     pub(crate) fn start(route: &Route) -> Position
@@ -64,6 +64,18 @@ impl Position {
         Position {
             up: 0,
             rest: route.falling.len(),
+        }
+    }
+
+    // The position after `walked` steps, `up` of them up the rising list.
+    pub(crate) fn at_step(route: &Route, walked: usize, up: usize) -> Position
+        requires up { up ≤ walked }
+        requires walked { walked ≤ length route.now.falling }
+        ensures at { result ≡ at_step route.now walked up }
+    {
+        Position {
+            up,
+            rest: route.falling.len() - walked + up,
         }
     }
 
@@ -79,20 +91,17 @@ impl Position {
         }
     }
 
-    // The number of entries of the other list that reach the quota with the entry that was passed
-    // last: if it is falling, the rising entries that are left, otherwise the falling entries that
-    // were passed.
-    pub(crate) fn partners(self, falls: bool, route: &Route) -> usize
+    // The number of entries of the other list that reach the quota with the entry that is passed
+    // next: if it is falling, the rising entries that are left, otherwise the falling entries that
+    // were passed, which are those of the `walked` steps that did not go up.
+    pub(crate) fn partners(self, falls: bool, walked: usize, route: &Route) -> usize
         requires up { self.up ≤ length route.now.rising }
         requires rest { self.rest ≤ length route.now.falling }
+        requires passed { HasPassed walked self route.now.falling }
         ensures chosen { result
             ≡ cond falls (length route.now.rising - self.up) (length route.now.falling - self.rest) }
     {
-        either(
-            falls,
-            route.rising.len() - self.up,
-            route.falling.len() - self.rest,
-        )
+        either(falls, route.rising.len(), walked) - self.up
     }
 }
 

@@ -9,10 +9,12 @@
 //! required takes longer.
 ghost use Rattle.std.specs.Prelude.{◌≡◌, ℕ, ◌+◌, ◌-◌, ◌^◌, ◌<◌, ◌≤◌, ◌*◌, ◌&&◌, ◌||◌, length, not, nat_le};
 ghost use Rattle.std.specs.Prelude.{slice_index, slice_index_or};
+ghost use Rattle.std.specs.List.{All};
 ghost use Rattle.council_core.specs.declared.limits.TheConstants.{MAX_TOTAL};
 ghost use Rattle.half_sums.specs.Entries.{zero_entry};
 ghost use Rattle.swing_walk.specs.Pairs.{large_pairs, large_with};
-ghost use Rattle.swing_walk.specs.Walks.{enough, turned_route, IsNext, StandsAt, StandApart, at_start};
+ghost use Rattle.swing_walk.specs.Walks.{enough, turned_route, IsNext, StandsAt, StandApart, HasPassed};
+ghost use Rattle.swing_walk.specs.Walks.{at_start, at_step};
 ghost use Rattle.swing_walk.specs.Sides.{side};
 ghost use Rattle.swing_walk.specs.Tallies.{CreditsEach};
 
@@ -30,6 +32,14 @@ use half_sums::{Entry, ROOM, SumList};
 struct Chain<P: Partners> {
     tallies: [MaskTally; 2],
     partners: P,
+}
+
+// The counts of the two chains of a walk, in one place, because a loop that has two addresses takes
+// longer.
+#[derive(Clone, Copy)]
+struct Chains<P: Partners> {
+    front: Chain<P>,
+    back: Chain<P>,
 }
 
 // The positions of the two chains of a walk, after `walked` steps of each.
@@ -56,109 +66,132 @@ pub(crate) fn walk<P: Partners>(route: &Route, front: P, back: P) -> Counts
     ensures with_chair { (place : ℕ) → place < CHAIRS → slice_index result.with_chair place
         ≡ large_with route.now.quota route.now.least_size place route.now.rising route.now.falling }
 {
-    let mut front = Chain {
-        tallies: [MaskTally::new(); 2],
-        partners: front,
+    let mut chains = Chains {
+        front: Chain {
+            tallies: [MaskTally::new(); 2],
+            partners: front,
+        },
+        back: Chain {
+            tallies: [MaskTally::new(); 2],
+            partners: back,
+        },
     };
-    let mut back = Chain {
-        tallies: front.tallies,
-        partners: back,
-    };
-    let ends = walk_within(route, &mut front, &mut back);
-    walk_on(ends, route, &mut front, &mut back);
-    join(&mut front.tallies, &back.tallies);
-    join(&mut back.tallies, &front.tallies);
-    counts_of(rising(&front.tallies), rising(&back.tallies))
+    let ends = walk_within(route, &mut chains);
+    walk_on(ends, route, &mut chains);
+    join(&mut chains.front.tallies, &chains.back.tallies);
+    join(&mut chains.back.tallies, &chains.front.tallies);
+    counts_of(rising(&chains.front.tallies), rising(&chains.back.tallies))
 }
 
 // Walks up the left list and down the right one, and from the other end up the right list and down
-// the left one, as many steps as the shorter list has entries, so neither list ends. The two chains
-// do not depend on one another: each has its own tallies, and neither branches on the sums. Both
-// routes are copies in the frame of the loop.
+// the left one, as many steps as the shorter list has entries, so neither list ends; none if a set
+// has `MAX_TOTAL` votes. The two chains do not depend on one another: each has its own tallies, and
+// neither branches on the sums. Both routes are copies in the frame of the loop.
 #[inline(never)]
-fn walk_within<P: Partners>(
-    route: &Route,
-    front: &mut Chain<P>,
-    back: &mut Chain<P>,
-) -> ChainPositions
-    requires front { StandsAt (P.counts front.old.partners) route.now (at_start route.now) front.old.tallies }
-    requires back { StandsAt (P.counts back.old.partners) (turned_route route.now) (at_start (turned_route route.now))
-        back.old.tallies }
+fn walk_within<P: Partners>(route: &Route, chains: &mut Chains<P>) -> ChainPositions
+    requires front { StandsAt (P.counts chains.old.front.partners) route.now (at_start route.now)
+        chains.old.front.tallies }
+    requires back { StandsAt (P.counts chains.old.back.partners) (turned_route route.now)
+        (at_start (turned_route route.now)) chains.old.back.tallies }
     ensures within { 2 * result.walked ≤ length route.now.rising + length route.now.falling }
-    ensures apart { StandApart (P.counts front.new.partners) (P.counts back.new.partners) route.now result
-        front.new.tallies back.new.tallies }
+    ensures apart { StandApart (P.counts chains.new.front.partners) (P.counts chains.new.back.partners) route.now
+        result chains.new.front.tallies chains.new.back.tallies }
 {
     let (own, other) = (route.copy(), route.turned());
-    let steps = own.rising.len().min(own.falling.len());
-    let mut from_front = Position::start(&own);
-    let mut from_back = Position::start(&other);
+    let steps = steps_within(&own);
+    let mut front_up = 0;
+    let mut back_up = 0;
     for walked in 0..steps {
-        from_front = pass_within(from_front, &own, front);
-        from_back = pass_within(from_back, &other, back);
+        front_up = pass_within(front_up, walked, &own, &mut chains.front);
+        back_up = pass_within(back_up, walked, &other, &mut chains.back);
     }
     ChainPositions {
         walked: steps,
-        front: from_front,
-        back: from_back,
+        front: Position::at_step(&own, steps, front_up),
+        back: Position::at_step(&other, steps, back_up),
+    }
+}
+
+// The number of steps within both lists, or 0 if a set has `MAX_TOTAL` votes.
+fn steps_within(route: &Route) -> usize
+    ensures rising { result ≤ length route.now.rising }
+    ensures falling { result ≤ length route.now.falling }
+    ensures rising_below { 0 < result → All (λ e. e.sum < MAX_TOTAL) route.now.rising }
+    ensures falling_below { 0 < result → All (λ e. e.sum < MAX_TOTAL) route.now.falling }
+{
+    if route.rising.is_below_limit() && route.falling.is_below_limit() {
+        route.rising.len().min(route.falling.len())
+    } else {
+        0
     }
 }
 
 // Walks the remaining steps, until all entries are passed.
 #[inline(never)]
-fn walk_on<P: Partners>(
-    ends: ChainPositions,
-    route: &Route,
-    front: &mut Chain<P>,
-    back: &mut Chain<P>,
-)
+fn walk_on<P: Partners>(ends: ChainPositions, route: &Route, chains: &mut Chains<P>)
     requires within { 2 * ends.walked ≤ length route.now.rising + length route.now.falling }
-    requires apart { StandApart (P.counts front.old.partners) (P.counts back.old.partners) route.now ends
-        front.old.tallies back.old.tallies }
+    requires apart { StandApart (P.counts chains.old.front.partners) (P.counts chains.old.back.partners) route.now
+        ends chains.old.front.tallies chains.old.back.tallies }
 
     // The pairs that both chains together have credited.
     ensures lefts { CreditsEach (enough route.now) route.now.rising route.now.falling
-        (side 0 front.new.tallies) (side 1 back.new.tallies) }
+        (side 0 chains.new.front.tallies) (side 1 chains.new.back.tallies) }
     ensures rights { CreditsEach (enough route.now) route.now.falling route.now.rising
-        (side 0 back.new.tallies) (side 1 front.new.tallies) }
+        (side 0 chains.new.back.tallies) (side 1 chains.new.front.tallies) }
 {
     let other = route.turned();
     let steps = route.rising.len() + route.falling.len();
     let mut from_front = ends.front;
     let mut from_back = ends.back;
     for walked in ends.walked..steps / 2 {
-        from_front = pass(from_front, route, front);
-        from_back = pass(from_back, &other, back);
+        from_front = pass(from_front, walked, route, &mut chains.front);
+        from_back = pass(from_back, walked, &other, &mut chains.back);
     }
     if steps % 2 == 1 {
-        pass(from_front, route, front);
+        pass(from_front, steps / 2, route, &mut chains.front);
     }
 }
 
-// Passes the next entry of two lists of which neither has ended.
+// Passes the next entry of two lists of which neither has ended, and no set has `MAX_TOTAL` votes,
+// after `walked` steps, `up` of them up the rising list. Returns the number of steps up after it.
+// With `walked`, one number is the position of a chain, because a loop that keeps two for each chain
+// takes longer.
 #[inline(always)]
-fn pass_within<P: Partners>(position: Position, route: &Route, chain: &mut Chain<P>) -> Position
+fn pass_within<P: Partners>(up: usize, walked: usize, route: &Route, chain: &mut Chain<P>) -> usize
+    requires rising_below { All (λ e. e.sum < MAX_TOTAL) route.now.rising }
+    requires falling_below { All (λ e. e.sum < MAX_TOTAL) route.now.falling }
+
     // The position of the chain.
-    requires some_rising { position.up < length route.now.rising }
-    requires some_falling { 0 < position.rest }
-    requires bound { position.up + length route.now.falling < position.rest + ROOM }
-    requires stands { StandsAt (P.counts chain.old.partners) route.now position chain.old.tallies }
+    requires up { up ≤ walked }
+    requires some_rising { walked < length route.now.rising }
+    requires some_falling { walked < length route.now.falling }
+    requires stands { StandsAt (P.counts chain.old.partners) route.now (at_step route.now walked up)
+        chain.old.tallies }
 
     // The next position.
-    ensures next { result.up + position.rest ≡ position.up + result.rest + 1 }
-    ensures stands { StandsAt (P.counts chain.new.partners) route.now result chain.new.tallies }
+    ensures up { result ≤ walked + 1 }
+    ensures stands { StandsAt (P.counts chain.new.partners) route.now (at_step route.now (walked + 1) result)
+        chain.new.tallies }
 {
-    let low = route.rising.at(position.up);
-    let high = route.falling.at(position.rest - 1);
+    let position = Position::at_step(route, walked, up);
+    let low = route.rising.at_below_limit(up);
+    let high = route.falling.at_below_limit(position.rest - 1);
     let falls = route.quota <= low.sum + high.sum;
-    pass_next(Next { low, high, falls }, position, route, chain)
+    pass_next(Next { low, high, falls }, position, walked, route, chain).up
 }
 
-// Passes the next entry of two lists of which at most one has ended.
+// Passes the next entry of two lists of which at most one has ended, after `walked` steps.
 #[inline(always)]
-fn pass<P: Partners>(position: Position, route: &Route, chain: &mut Chain<P>) -> Position
+fn pass<P: Partners>(
+    position: Position,
+    walked: usize,
+    route: &Route,
+    chain: &mut Chain<P>,
+) -> Position
     // The position of the chain.
     requires some { position.up < length route.now.rising + position.rest }
     requires bound { position.up + length route.now.falling < position.rest + ROOM }
+    requires passed { HasPassed walked position route.now.falling }
     requires stands { StandsAt (P.counts chain.old.partners) route.now position chain.old.tallies }
 
     // The next position.
@@ -169,14 +202,15 @@ fn pass<P: Partners>(position: Position, route: &Route, chain: &mut Chain<P>) ->
     let high = next_down(&route.falling, position.rest);
     let some_rising = position.up < route.rising.len();
     let falls = falls_next(&low, &high, some_rising, position.rest > 0, route.quota);
-    pass_next(Next { low, high, falls }, position, route, chain)
+    pass_next(Next { low, high, falls }, position, walked, route, chain)
 }
 
-// Passes the next entry.
+// Passes the next entry after `walked` steps.
 #[inline(always)]
 fn pass_next<P: Partners>(
     next: Next,
     position: Position,
+    walked: usize,
     route: &Route,
     chain: &mut Chain<P>,
 ) -> Position
@@ -184,13 +218,14 @@ fn pass_next<P: Partners>(
 
     // The position of the chain.
     requires bound { position.up + length route.now.falling < position.rest + ROOM }
+    requires passed { HasPassed walked position route.now.falling }
     requires stands { StandsAt (P.counts chain.old.partners) route.now position chain.old.tallies }
 
     // The next position.
     ensures next { result.up + position.rest ≡ position.up + result.rest + 1 }
     ensures stands { StandsAt (P.counts chain.new.partners) route.now result chain.new.tallies }
 {
-    let partners = chain.partners.pass(route, position, next);
+    let partners = chain.partners.pass(route, position, walked, next);
     add_to(&mut chain.tallies, next.falls, next.mask(), partners);
     position.after(next.falls)
 }

@@ -111,7 +111,7 @@ function drawAxes(
   const { measure } = model;
   const all = values.filter((it): it is number => it !== null);
   const room = (Math.max(...all) - Math.min(...all) || 1) * 0.05;
-  const most = measure === "swings" ? Infinity : measure === "share" ? 100 : 1;
+  const most = measure === "swings" || measure === "ratio" ? Infinity : measure === "share" ? 100 : 1;
   const ends: [number, number] = [Math.max(0, Math.min(...all) - room), Math.min(most, Math.max(...all) + room)];
   const y = scaleLinear().domain(ends).range([bottom, top]).nice(6);
   const across = root.append("g").attr("transform", `translate(${left},0)`);

@@ -62,7 +62,7 @@ class WorkerDesk implements Desk {
   }
 }
 
-/** A worker, and for the count over all coalitions, which gives way to nothing, one of its own. */
+/** A worker; and one of its own for what gives way to nothing, the count over all coalitions and reading a table. */
 class First implements Desk {
   readonly #desk: WorkerDesk;
 
@@ -71,7 +71,7 @@ class First implements Desk {
   }
 
   ask<Some extends Kind>(kind: Some, ask: Ask<Some>, report?: Report): Task<Answer<Some>> {
-    if (kind !== "plain") return this.#desk.ask(kind, ask, report);
+    if (kind !== "plain" && kind !== "read") return this.#desk.ask(kind, ask, report);
     const own = new WorkerDesk();
     const { answer } = own.ask(kind, ask, report);
     return { answer: answer.finally(() => own.end()), cancel: () => own.end() };

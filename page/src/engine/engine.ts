@@ -14,6 +14,7 @@ import { plainCount } from "./plain";
 import { readingOf, readingsOf, type Reading } from "./reading";
 import type { Seat, Snapshot } from "./standing";
 import type { Change, Command } from "../study/study";
+import { contentsOf } from "../tables/sources";
 import { sweptPart } from "./sweep";
 import { turnsOf } from "./turns";
 import { MAJORITIES, type Majority } from "../study/words";
@@ -164,6 +165,7 @@ export class Engine {
       best: (it) => withRegister(this.#copy(it), (board) => triedMoves(board, it, progress)),
       lines: (script) => replayText(script).text,
       check: ({ script, readings }) => isGivenBy(script, readings),
+      read: (given) => contentsOf(given),
       plain: (weights) => plainCount(weights),
     };
     return (await acts[kind](ask)) as Orders[Some]["answer"];

@@ -2,6 +2,7 @@
 import { Refused } from "../../../bindings/javascript/src/refused";
 import type { Register } from "../../../bindings/javascript/src/register";
 import { MEMBER_VOTES } from "../../../bindings/javascript/src/names";
+import { NO_PROPORTIONS } from "../cited";
 import { shareVotes, steppedVotes, totalOf, votesAsked, votesCommand } from "./amount";
 import type { Outcome, Refusal } from "./orders";
 import { closedChair, type Seat } from "./standing";
@@ -11,7 +12,7 @@ import {
 } from "../study/study";
 import { decimalRatio, nearest, reduced, sum, type Ratio } from "../study/fractions";
 import { MOST_CHAIRS } from "../study/words";
-import { sharedOut, type Voter } from "./target";
+import { hasProportions, sharedOut, type Voter } from "./target";
 
 export const OFF: Outcome = { kind: "off" };
 
@@ -91,10 +92,12 @@ function given(votes: number, voters: readonly Voter[]): Commands {
 function shared(register: Register, { codes, percent, others }: Share): Commands {
   const own = votersOf(register, codes);
   if (typeof own === "string") return own;
-  if (sumOf(own) === 0) return "these members have no votes, so no proportions to keep";
+  if (!hasProportions(own)) return NO_PROPORTIONS;
   const total = totalOf(register);
+  const unit = /^[+-]/.test(percent) ? "points more" : "per cent";
+  const words = `no number of votes is ${percent} ${unit} of the total voting power`;
+  if (total === 0) return words;
   const asked = shareAsked(percent, sumOf(own), total);
-  const words = `no number of votes is ${percent} ${/^[+-]/.test(percent) ? "points more" : "per cent"} of the total`;
   if (asked.numerator < 0n || asked.numerator >= 100n * asked.denominator) return words;
   const exact = others === "keep" ? shareVotes(asked, total - sumOf(own))
     : reduced(asked.numerator * BigInt(total), 100n * asked.denominator);
@@ -104,7 +107,7 @@ function shared(register: Register, { codes, percent, others }: Share): Commands
   if (others === "keep" || typeof gets === "string") return gets;
   const rest = Object.entries(register.members).flatMap(([code, it]) =>
     it.suspended || codes.includes(code) ? [] : [{ code, votes: it.votes }]);
-  if (sumOf(rest) === 0) return "the others have no votes to pay with";
+  if (!hasProportions(rest)) return "the others have no votes to pay with";
   const pays = given(total - votes, rest);
   return typeof pays === "string" ? pays : [...gets, ...pays];
 }
@@ -117,6 +120,11 @@ function joined({ members }: Register, { codes, to }: Join): Commands {
 }
 
 function commandsOf(register: Register, what: What): Commands {
+  if (what.kind === "percent") {
+    const command = votesAsked(register, what);
+    return typeof command === "string" ? command : [command];
+  }
+  if (!isOperation(what)) return [what];
   switch (what.kind) {
     case "merge":
     case "dissolve":
@@ -127,14 +135,8 @@ function commandsOf(register: Register, what: What): Commands {
       return scaled(register, what);
     case "share":
       return shared(register, what);
-    case "join":
+    case "move":
       return joined(register, what);
-    case "percent": {
-      const command = votesAsked(register, what);
-      return typeof command === "string" ? command : [command];
-    }
-    default:
-      return [what];
   }
 }
 

@@ -3,6 +3,7 @@ import type { MemberRow } from "../../../bindings/javascript/src/tables";
 import type { Reading } from "./reading";
 import type { Seat, Snapshot } from "./standing";
 import type { Change, Command, SweepAsked, Who } from "../study/study";
+import type { Contents, Given } from "../tables/sources";
 import type { Weights } from "./plain";
 import type { Ratio } from "../study/fractions";
 import type { Majority, Measure } from "../study/words";
@@ -175,6 +176,8 @@ export interface Orders {
   lines: { ask: string; answer: string };
   /** Replays a script, and compares its last readings with others. */
   check: { ask: { readonly script: string; readonly readings: readonly Reading[] }; answer: boolean };
+  /** Reads a file or a text. */
+  read: { ask: Given; answer: Contents };
   /** Counts a board over all its coalitions, without the module. */
   plain: { ask: Weights; answer: readonly number[] };
 }

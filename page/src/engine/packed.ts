@@ -1,6 +1,6 @@
 /** Readings as numbers in one array, which go from a worker to the page much faster than objects with fractions. */
 import { over, type Ratio } from "../study/fractions";
-import type { ChairReading, Reading } from "./reading";
+import { withRatio, type ChairReading, type Reading } from "./reading";
 import { MAJORITIES, type Majority } from "../study/words";
 
 /** A fraction as two numbers, of at most 2^53 as in the package; none is 0 over 0. */
@@ -26,14 +26,17 @@ export function unpacked(numbers: Float64Array): Reading[] {
   let at = 0;
   const next = (): number => numbers[at++] ?? 0;
   const ratio = (): Ratio | null => over(next(), next());
-  const chair = (): ChairReading => ({
+  const chair = (): Omit<ChairReading, "ratio"> => ({
     chair: next(), weight: next(), swings: next(),
     banzhaf: ratio(), share: ratio(), prevent: ratio(), initiate: ratio(),
   });
-  const reading = (): Reading => ({
-    majority: MAJORITIES[next()] as Majority, quota: next(), leastSize: next(), cast: next(), total: next(),
-    winning: next(), coalitions: next(), act: ratio(), chairs: Array.from({ length: next() }, chair),
-  });
+  const reading = (): Reading => {
+    const board = {
+      majority: MAJORITIES[next()] as Majority, quota: next(), leastSize: next(), cast: next(), total: next(),
+      winning: next(), coalitions: next(), act: ratio(),
+    };
+    return { ...board, chairs: Array.from({ length: next() }, () => withRatio(chair(), board.cast)) };
+  };
   const all: Reading[] = [];
   while (at < numbers.length) all.push(reading());
   return all;

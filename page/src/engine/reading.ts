@@ -1,7 +1,7 @@
 /** Readings of a register: the counts by one majority, and the power of each open chair, as exact fractions. */
 import type { Indices } from "../../../bindings/javascript/src/indices";
 import type { Register } from "../../../bindings/javascript/src/register";
-import { exact, over, type Ratio } from "../study/fractions";
+import { exact, over, quotient, type Ratio } from "../study/fractions";
 import type { Majority, Measure } from "../study/words";
 
 /** An open chair: its votes, its swings, and its measures; one that has no value is null. */
@@ -13,6 +13,8 @@ export interface ChairReading {
   readonly share: Ratio | null;
   readonly prevent: Ratio | null;
   readonly initiate: Ratio | null;
+  /** Its share of power over its share of the votes cast, which is made here. */
+  readonly ratio: Ratio | null;
 }
 
 /** A board that was counted by a majority. */
@@ -38,6 +40,11 @@ export function readings(list: readonly Reading[]): Readings {
   return new Map(list.map((it) => [it.majority, it]));
 }
 
+/** A chair with the ratio of its power to its votes, where these votes are cast in all. */
+export function withRatio(chair: Omit<ChairReading, "ratio">, cast: number): ChairReading {
+  return { ...chair, ratio: quotient(chair.share, over(chair.weight, cast)) };
+}
+
 /** The counts of the package, with fractions of any size. */
 export function readingOf(indices: Indices): Reading {
   const { majority, quota, leastSize, cast, total, omega, coalitions, act, chairs } = indices;
@@ -50,7 +57,7 @@ export function readingOf(indices: Indices): Reading {
     winning: omega,
     coalitions,
     act: exact(act),
-    chairs: chairs.map(({ chair, weight, swings, banzhaf, share, prevent, initiate }) => ({
+    chairs: chairs.map(({ chair, weight, swings, banzhaf, share, prevent, initiate }) => withRatio({
       chair,
       weight,
       swings,
@@ -58,7 +65,7 @@ export function readingOf(indices: Indices): Reading {
       share: exact(share),
       prevent: exact(prevent),
       initiate: exact(initiate),
-    })),
+    }, cast)),
   };
 }
 

@@ -30,6 +30,11 @@ export function shareOfSize({ all, winning }: SizesModel, majority: Majority, si
   return over(winning.get(majority)?.[size] ?? 0, all[size] ?? 0);
 }
 
+/** How many coalitions of a size can block: the other chairs lose, so all of this size less those whose others win. */
+export function blockingOfSize({ all, winning }: SizesModel, majority: Majority, size: number): number {
+  return (all[size] ?? 0) - (winning.get(majority)?.[all.length - 1 - size] ?? 0);
+}
+
 /** Whether the winning coalitions of all sizes are as many as the register counts, in words. */
 export function checkWords(reading: Reading, bySize: readonly number[]): { holds: boolean; words: string } {
   const { sum, holds } = checkOf(reading.winning, bySize);

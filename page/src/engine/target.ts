@@ -1,5 +1,6 @@
 /** What is varied in a sweep or for a threshold: the votes of a member, or of a chair's members in proportion. */
 import type { Register } from "../../../bindings/javascript/src/register";
+import { NO_PROPORTIONS } from "../cited";
 import { totalOf } from "./amount";
 import type { Command, Who } from "../study/study";
 
@@ -12,23 +13,26 @@ export interface Voter {
   readonly votes: number;
 }
 
+/** Whether votes can be shared out among members: one alone gets all, but several need votes for their proportions. */
+export function hasProportions(members: readonly Voter[]): boolean {
+  return members.length === 1 || members.some((it) => it.votes > 0);
+}
+
 /** Shares out votes among members in the proportions that they have, with the largest remainders first. */
 export function sharedOut(votes: number, members: readonly Voter[]): Command[] {
-  const sum = members.reduce((all, it) => all + BigInt(it.votes), 0n);
-  const parts = members.map((it) => (sum === 0n ? 0n : (BigInt(votes) * BigInt(it.votes)) / sum));
-  const rests = members.map((it, at) => (sum === 0n ? 0n : BigInt(votes) * BigInt(it.votes) - (parts[at] ?? 0n) * sum));
+  // One member without votes gets all, as from a single vote.
+  const weights = members.map((it) => BigInt(members.length === 1 ? 1 : it.votes));
+  const sum = weights.reduce((all, it) => all + it, 0n);
+  const parts = weights.map((it) => (BigInt(votes) * it) / sum);
+  const rests = weights.map((it, at) => BigInt(votes) * it - (parts[at] ?? 0n) * sum);
   const order = members.map((_, at) => at).sort(
     (left, right) => Number((rests[right] ?? 0n) - (rests[left] ?? 0n)) || left - right,
   );
-  let missing = BigInt(votes) - parts.reduce((all, it) => all + it, 0n);
-  const given = [...parts];
-  for (let at = 0; missing > 0n; at = (at + 1) % order.length) {
-    const place = order[at] ?? 0;
-    const more = sum === 0n ? missing : 1n;
-    given[place] = (given[place] ?? 0n) + more;
-    missing -= more;
-  }
-  return members.map((it, at) => ({ kind: "votes", code: it.code, votes: Number(given[at] ?? 0n) }));
+  const missing = BigInt(votes) - parts.reduce((all, it) => all + it, 0n);
+  const raised = new Set(order.slice(0, Number(missing)));
+  return members.map(({ code }, at) => {
+    return { kind: "votes", code, votes: Number(parts[at]) + (raised.has(at) ? 1 : 0) };
+  });
 }
 
 /** What is varied: its votes, those of all others in the total, its chair, and the commands for some votes. */
@@ -45,7 +49,8 @@ function votersOf(register: Register, who: Who): { own: readonly Voter[]; chair:
   if (who.kind === "chair") {
     const seated = Object.entries(members).map(([code, it]) => ({ code, ...it }));
     const own = seated.filter((it) => it.chair === who.chair && !it.suspended);
-    if (!own.length) throw new BadSweep(`chair ${who.chair} has no member whose votes could change`);
+    if (!own.length) throw new BadSweep(`chair ${who.chair} has no member whose votes count`);
+    if (!hasProportions(own)) throw new BadSweep(NO_PROPORTIONS);
     return { own, chair: who.chair };
   }
   const { code } = who;

@@ -120,7 +120,7 @@ function powerColumns(asked: Asked, majority: Majority): Column[] {
     const value = measureOf(chair, measure);
     const fraction = measure === "swings" ? String(chair.swings) : fractionText(value);
     const decimal = valueText(value, measure, digits);
-    return { value, decimal, unit: "", fraction, source: `counted: ${MEASURE[measure].column}` };
+    return { value, decimal, unit: "", fraction, source: MEASURE[measure].from };
   };
   const power = thingColumns(asked, {
     thing: "power", group, alone: ["power", group], mark: "counted", measure, majority: `, ${label}`,

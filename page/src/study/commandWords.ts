@@ -56,7 +56,9 @@ export function changeWords(change: Change, outcome: Outcome | undefined, names:
 
 /** Why a change wasn't carried out; empty if it was. Of an operation, it names the member or the chair. */
 export function refusalWords(outcome: Outcome | undefined, names?: Standing): string {
-  if (outcome?.kind === "impossible") return outcome.why;
+  if (outcome?.kind === "impossible") {
+    return outcome.why.replace(/^[A-Z]{3}\b/, (code) => memberWords(code, names?.memberName(code)));
+  }
   if (outcome?.kind !== "refused") return "";
   const { commands, refused, number, name } = outcome;
   const words = `refused ${number} ${name}: ${reasonOf(name)} (${recordOf(refused)})`;

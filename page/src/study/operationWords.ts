@@ -72,7 +72,7 @@ export function operationWords(what: Operation, outcome: Outcome | undefined, na
       const pays = what.others === "pay" ? "the others pay in proportion" : "the others keep their votes";
       return `${members}: ${share}, ${pays}${done ? ` (${ownVotes(what.codes, done, names)})` : ""}`;
     }
-    case "join": {
+    case "move": {
       const target = what.to === null ? "no chair" : `chair ${what.to}`;
       return `${listed(what.codes.map(who(names)))} → ${target}`;
     }

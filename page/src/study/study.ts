@@ -1,5 +1,6 @@
 /** A study: the base as a script, the changes, named scenarios, and a sweep. Nothing in it is changed in place. */
 import type { Kind } from "../../../bindings/javascript/src/names";
+import { OPERATIONS } from "../cited";
 import type { Majority, Measure } from "./words";
 
 /** A command of a script, as in docs/FORMATS.md, with the parts of its kind. A move to no chair has null. */
@@ -57,7 +58,7 @@ export interface Share {
 
 /** Members move to an open chair, or with null to none; those that are there already stay. */
 export interface Join {
-  readonly kind: "join";
+  readonly kind: "move";
   readonly codes: readonly string[];
   readonly to: number | null;
 }
@@ -68,11 +69,9 @@ export type Operation = Merge | Dissolve | Split | Scale | Share | Join;
 /** What a change does. */
 export type What = Command | Percentage | Operation;
 
-/** The kinds of operations. */
-export const OPERATIONS = ["merge", "dissolve", "split", "scale", "share", "join"] as const;
-
+/** Whether it is an operation. A move is one if it has several codes, and else a command. */
 export function isOperation(what: What): what is Operation {
-  return OPERATIONS.some((it) => it === what.kind);
+  return what.kind === "move" ? "codes" in what : what.kind in OPERATIONS;
 }
 
 /** A change in the list. One that is switched off stays in the list and isn't carried out. */
@@ -195,6 +194,14 @@ export function withChanges(study: Study, changes: readonly Change[]): Study {
 export function freshId(study: Study): number {
   const all = [study.changes, ...study.scenarios.map((it) => it.changes)];
   return all.flat().reduce((most, { id }) => Math.max(most, id), 0) + 1;
+}
+
+/** The study with these changes, which are kept as a scenario, too. */
+export function withScenario(study: Study, name: string, given: readonly Omit<Change, "id" | "on">[]): Study {
+  const first = freshId(study);
+  const changes = given.map((it, at) => ({ ...it, id: first + at, on: true }));
+  const again = changes.map((it) => ({ ...it, id: it.id + changes.length }));
+  return { ...study, changes, scenarios: [...study.scenarios, { name, changes: again }] };
 }
 
 /** The study with changes added at the end. */

@@ -2,9 +2,10 @@
 import { Command } from "../../../bindings/javascript/src/commands";
 import { scriptWith } from "./script";
 import {
-  AGAINST, COLUMNS, FIRST_VIEW, OPERATIONS, ORDERS, TABS, THINGS, type Base, type Change, type Operation,
-  type Percentage, type Scenario, type Study, type SweepAsked, type View, type What,
+  AGAINST, COLUMNS, FIRST_VIEW, ORDERS, TABS, THINGS, type Base, type Change, type Operation, type Percentage,
+  type Scenario, type Study, type SweepAsked, type View, type What,
 } from "./study";
+import { OPERATIONS } from "../cited";
 import { CHAIRS, MAJORITIES, MEASURES } from "./words";
 
 export interface StudyData {
@@ -98,31 +99,29 @@ function codes(value: unknown): string[] {
 
 const chair = (value: unknown): number => oneOf(CHAIRS, value, "a chair");
 
+/** What reads a field of an operation, by what the field is. */
+const FIELDS = {
+  chair,
+  seat: (value: unknown) => (value === null ? null : chair(value)),
+  opened: (value: unknown) => (value === "lowest" ? value : chair(value)),
+  codes,
+  whose: (value: unknown) => (typeof value === "number" ? chair(value) : codes(value)),
+  change: (value: unknown) => percentOf(value, true),
+  share: (value: unknown) => decimal(value, "a share"),
+  others: (value: unknown) => oneOf(["keep", "pay"], value, "who pays for a share"),
+};
+
+/** The operation of a kind, whose fields the common table names. */
 function operation(kind: Operation["kind"], found: Fields): Operation {
-  const { to, of } = found;
-  switch (kind) {
-    case "merge":
-      return { kind, chair: chair(found["chair"]), to: chair(to) };
-    case "dissolve":
-      return { kind, chair: chair(found["chair"]), to: to === null ? null : chair(to) };
-    case "split":
-      return { kind, codes: codes(found["codes"]), to: to === "lowest" ? to : chair(to) };
-    case "scale":
-      return { kind, of: typeof of === "number" ? chair(of) : codes(of), percent: percentOf(found["percent"], true) };
-    case "share": {
-      const others = oneOf(["keep", "pay"] as const, found["others"], "who pays for a share");
-      return { kind, codes: codes(found["codes"]), percent: decimal(found["percent"], "a share"), others };
-    }
-    case "join":
-      return { kind, codes: codes(found["codes"]), to: to === null ? null : chair(to) };
-  }
+  const read = Object.entries(OPERATIONS[kind]).map(([name, field]) => [name, FIELDS[field](found[name])] as const);
+  return { kind, ...Object.fromEntries(read) } as unknown as Operation;
 }
 
 function what(value: unknown): What {
   const found = fields(value, "a change");
   if (found["kind"] === "percent") return percentage(found);
-  const kind = OPERATIONS.find((it) => it === found["kind"]);
-  return kind ? operation(kind, found) : command(value);
+  const kind = (Object.keys(OPERATIONS) as Operation["kind"][]).find((it) => it === found["kind"]);
+  return kind && (kind !== "move" || "codes" in found) ? operation(kind, found) : command(value);
 }
 
 function change(value: unknown): Change {

@@ -4,7 +4,7 @@ import { CHAIRS as MOST, MAJORITIES, REFUSALS, type Majority } from "../../../bi
 export { MAJORITIES, type Majority };
 export { MAJORITY } from "../cited";
 
-export const MEASURES = ["share", "banzhaf", "prevent", "initiate", "swings"] as const;
+export const MEASURES = ["share", "banzhaf", "prevent", "initiate", "swings", "ratio"] as const;
 export type Measure = typeof MEASURES[number];
 
 interface MeasureWords {
@@ -13,8 +13,8 @@ interface MeasureWords {
   readonly name?: string;
   readonly definition: string;
   readonly source: string;
-  /** Its column in the lines of `board replay`. */
-  readonly column: string;
+  /** Where its numbers come from: its column in the lines of `board replay`, or how it is made here. */
+  readonly from: string;
 }
 
 export const MEASURE: Readonly<Record<Measure, MeasureWords>> = {
@@ -23,31 +23,37 @@ export const MEASURE: Readonly<Record<Measure, MeasureWords>> = {
     name: "normalised Banzhaf index",
     definition: "the chair's swings over the swings of all chairs, in per cent",
     source: "Banzhaf 1965",
-    column: "SHARE",
+    from: "counted: SHARE",
   },
   banzhaf: {
     label: "Banzhaf measure",
     definition: "the chair's swings over the number of sets of other chairs, 2^(N-1) for N open chairs",
     source: "Banzhaf 1965; Felsenthal and Machover 1998",
-    column: "BANZHAF",
+    from: "counted: BANZHAF",
   },
   prevent: {
     label: "Power to prevent action",
     definition: "the chair's swings over the number of winning coalitions; 1 where the chair has a veto",
     source: "Coleman 1971",
-    column: "PREVENT",
+    from: "counted: PREVENT",
   },
   initiate: {
     label: "Power to initiate action",
     definition: "the chair's swings over the number of losing coalitions; 1 where the chair alone can carry everything",
     source: "Coleman 1971",
-    column: "INITIATE",
+    from: "counted: INITIATE",
   },
   swings: {
     label: "Swings",
     definition: "the sets of other open chairs that lose, and win once this chair is added",
     source: "Penrose 1946; Banzhaf 1965",
-    column: "SWINGS",
+    from: "counted: SWINGS",
+  },
+  ratio: {
+    label: "Power over votes",
+    definition: "the chair's share of power over its share of the votes cast; above 1 it has more power than votes",
+    source: "both shares as above",
+    from: "made here: the share of power, SHARE, over the share of the votes cast",
   },
 };
 

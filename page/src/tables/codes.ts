@@ -25,6 +25,11 @@ export function countryCode(name: string): string | null {
   return CODES.get(keyOf(name)) ?? null;
 }
 
+/** What the same member's names have in common: the country's code, or the letters without accents and capitals. */
+export function memberKey(name: string): string {
+  return countryCode(name) ?? name.normalize("NFD").replace(/\p{M}/gu, "").replace(/\s+/g, " ").toLowerCase();
+}
+
 /** Codes that no country ever gets, without those that are used. */
 export function freeCodes(used: Iterable<string>): string[] {
   const taken = new Set(used);

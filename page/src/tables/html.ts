@@ -5,7 +5,10 @@ import { sheetOfCells } from "./text";
 import { Unreadable, type NamedSheet } from "./types";
 
 /** Makes a document of a text: the browser's DOMParser. */
-export type Parse = (text: string, type: "text/html" | "application/xml") => Document;
+export type Parse = (text: string, type: "text/html") => Document;
+
+/** Tables in one another at most. */
+const MOST_DEEP = 20;
 
 const RAISED = "\u2070\u00b9\u00b2\u00b3\u2074\u2075\u2076\u2077\u2078\u2079";
 
@@ -63,14 +66,24 @@ function bareTag(tag: string, name: string): string {
 export function bare(html: string): string {
   const told = without(html, /<!--/g, () => "-->");
   const plain = without(told, /<(style|script)\b/gi, (start) => `</${start.slice(1)}\\s*>`);
-  return plain.replace(/<\/?([a-z][a-z0-9:-]*)\b(?:[^"'<>]|"[^"<]*"|'[^'<]*')*>/gi, bareTag);
+  const left = plain.replace(/<\/?([a-z][a-z0-9:-]*)\b(?:[^"'<>]|"[^"<]*"|'[^'<]*')*>/gi, bareTag);
+  checkTables(left);
+  return left;
 }
 
-/** The tables of a page that have several rows and columns. */
+/** Refuses very many tags, and tables in tables, which a browser takes long to read. */
+function checkTables(html: string): void {
+  checkTags(html, "This page");
+  let deep = 0;
+  for (const [tag = ""] of html.matchAll(/<\/?table\b/gi)) {
+    deep = Math.max(0, deep + (tag.startsWith("</") ? -1 : 1));
+    if (deep > MOST_DEEP) throw new Unreadable(`This page has more than ${MOST_DEEP} tables in one another.`);
+  }
+}
+
+/** The tables of a page that have several rows and columns. The page is bare. */
 export function sheetsOfHtml(html: string, parse: Parse): NamedSheet[] {
-  const plain = bare(html);
-  checkTags(plain, "This page");
-  const tables = [...parse(plain, "text/html").querySelectorAll("table")];
+  const tables = [...parse(html, "text/html").querySelectorAll("table")];
   const sheets = tables.map(sheetOfTable).filter(({ sheet }) => sheet.width > 1 && sheet.rows.length > 1);
   if (!sheets.length) throw new Unreadable("There is no table in this page.");
   return sheets;

@@ -6,6 +6,8 @@ export interface Split {
   readonly rows: readonly (readonly string[])[];
   readonly from: number;
   readonly to: number;
+  /** The row of which each row was a part, from 0. */
+  readonly origins: readonly number[];
 }
 
 function linesOf(cell: string): string[] {
@@ -31,7 +33,7 @@ function hasPair(row: readonly string[]): boolean {
 /** Splits rows whose cells have lists in them. Where some have, a Director over an alternate is split, too. */
 export function splitLines(rows: readonly (readonly string[])[]): Split {
   const isList = rows.map(hasLists);
-  if (!isList.includes(true)) return { rows, from: 0, to: 0 };
+  if (!isList.includes(true)) return { rows, from: 0, to: 0, origins: rows.map((_, at) => at) };
   const parts = rows.map((row, at) => {
     if (!isList[at] && !hasPair(row)) return [row];
     const cells = row.map(linesOf);
@@ -39,5 +41,6 @@ export function splitLines(rows: readonly (readonly string[])[]): Split {
     return Array.from({ length: high }, (_, line) => cells.map((it) => it[line] ?? ""));
   });
   const split = parts.filter(({ length }) => length > 1);
-  return { rows: parts.flat(), from: split.length, to: split.flat().length };
+  const origins = parts.flatMap((part, at) => part.map(() => at));
+  return { rows: parts.flat(), from: split.length, to: split.flat().length, origins };
 }

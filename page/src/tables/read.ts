@@ -1,16 +1,18 @@
 /** Reads a sheet by its layout and the answers so far: a whole table, or what is wrong and what is open. */
-import { counted, grouped } from "../study/fractions";
+import { counted } from "../study/fractions";
 import { withoutAggregates, withoutLoose } from "./aggregates";
 import { columnName, columnNames, hasTwoHeaders } from "./columns";
 import { seated, type AlternateHead, type Seated } from "./chairs";
-import { countryCode, freeCodes, madeCodes } from "./codes";
+import { freeCodes, madeCodes, memberKey } from "./codes";
 import { membersOf, type Members } from "./members";
 import { wholeOf } from "./numbers";
+import { withChairs, withDirectors, withOwnRows } from "./directors";
 import { Questions } from "./questions";
 import { outsideOf, outsideWords } from "./outside";
 import { lineWords, linesOf, rowsWords, type Line, type Role } from "./rows";
 import { withSimilar } from "./similar";
 import { isStrict } from "./strict";
+import { askSums, withSums } from "./sums";
 import { askSuspensions } from "./suspensions";
 import { withHeadings, withTotals } from "./totals";
 import {
@@ -72,13 +74,11 @@ function rowFaults(sheet: Sheet, { header, columns }: Layout, lines: readonly Li
 
 /** Asks about names that stand twice. Returns the rows that are left out. */
 function askRepeats(lines: readonly Line[], questions: Questions): ReadonlySet<number> {
-  const plain = (name: string) => name.normalize("NFD").replace(/\p{M}/gu, "").replace(/\s+/g, " ").toLowerCase();
-  const keyOf = (name: string) => countryCode(name) ?? plain(name);
   const first = new Map<string, Line>();
   const out = new Set<number>();
   for (const line of lines) {
     const { name, code } = line.cells;
-    const key = keyOf(name);
+    const key = memberKey(name);
     const other = first.get(key);
     if (key === "" || !other) first.set(key, line);
     else if (code === "" || code.toUpperCase() !== other.cells.code.toUpperCase()) {
@@ -98,66 +98,6 @@ function askRepeats(lines: readonly Line[], questions: Questions): ReadonlySet<n
     }
   }
   return out;
-}
-
-/** A chair whose printed total differs from the sum of its members. */
-interface Difference {
-  readonly chair: string;
-  readonly printed: number;
-  readonly sum: number;
-}
-
-/** Compares the printed totals with the sums of the chairs' members. */
-function differencesOf(lines: readonly Line[], seats: ReadonlyMap<number, string>): Difference[] {
-  const sums = new Map<string, number>();
-  const printed = new Map<string, Set<number>>();
-  let above = "";
-  for (const line of lines) {
-    const seat = line.role === "heading" ? line.heading : seats.get(line.row) ?? "";
-    const chair = line.role === "total" ? above : seat;
-    if (line.role === "member") sums.set(seat, (sums.get(seat) ?? 0) + (line.votes ?? 0));
-    if (line.role === "member" || line.role === "heading") above = seat;
-    const isFree = line.role === "total" && (line.cells.votes !== "" || line.cells.name !== "");
-    if (chair && line.printed !== null && !isFree) {
-      printed.set(chair, (printed.get(chair) ?? new Set()).add(line.printed));
-    }
-  }
-  return [...printed].flatMap(([chair, values]) => {
-    const sum = sums.get(chair) ?? 0;
-    return [...values].filter((value) => value !== sum).map((value) => ({ chair, printed: value, sum }));
-  });
-}
-
-/** Lists the chairs whose printed totals differ, and asks whether the members' votes count. */
-function askSums(lines: readonly Line[], seats: ReadonlyMap<number, string>, questions: Questions): void {
-  const found = differencesOf(lines, seats);
-  if (!found.length) return;
-  const words = found.map(({ chair, printed, sum }) => {
-    return `${chair}: ${grouped(printed)} printed, ${grouped(sum)} by its members`;
-  }).join("; ");
-  questions.ask({
-    id: "sums",
-    kind: "sums",
-    words: `The printed totals of ${counted(found.length, "chair")} differ from the sums of their members. ${words}.`,
-    options: [
-      { key: "yes", words: "Take the members' votes",
-        choice: `Printed totals differ, and the members' votes count. ${words}` },
-      { key: "no", words: "Take nothing: I correct the table first", choice: "" },
-    ],
-  });
-}
-
-/** Whether all members are to be in no chair, where no column and no heading gives chairs. */
-function askChairs(lines: readonly Line[], layout: Layout, questions: Questions): void {
-  if (layout.columns.chair >= 0 || lines.some(({ role }) => role === "heading") || !lines.length) return;
-  questions.ask({
-    id: "no-chairs",
-    kind: "chairs",
-    words: "No column gives the chairs. Choose one above if there is one.",
-    options: [
-      { key: "yes", words: "All members are in no chair", choice: "No column gives chairs: no member has one" },
-    ],
-  });
 }
 
 /** Lists rows that were left out without a question, by what they are. */
@@ -234,10 +174,11 @@ function withCodes(lines: readonly Line[], layout: Layout): { coded: readonly Li
 
 /** What the headings say of alternates. */
 function alternateHead(sheet: Sheet, layout: Layout): AlternateHead {
-  const { chair } = layout.columns;
+  const { chair, chairName } = layout.columns;
   const heads = (sheet.rows[layout.header - 1] ?? []).filter((_, at) => at !== chair);
   if (heads.some((cell) => /^alternate/i.test(cell))) return "apart";
-  return chair >= 0 && /alternate/i.test(columnName(sheet, layout, chair)) ? "named" : "unknown";
+  const isNamed = [chair, chairName].some((at) => at >= 0 && /alternate/i.test(columnName(sheet, layout, at)));
+  return isNamed ? "named" : "unknown";
 }
 
 /** What the rows are, with the chairs of the members. */
@@ -252,12 +193,31 @@ function withSuspensions(lines: readonly Line[], rows: ReadonlySet<number>): Lin
   return lines.map((line) => (rows.has(line.row) ? { ...line, cells: { ...line.cells, suspended: "true" } } : line));
 }
 
+/** The rows without those that are struck out in a workbook, if they are to be left out. */
+function withoutStruck({ struck = [] }: Sheet, lines: readonly Line[], questions: Questions): readonly Line[] {
+  const rows = lines.filter(({ row }) => struck.includes(row)).map(({ row }) => row);
+  if (!rows.length) return lines;
+  const words = rowsWords(rows);
+  const answer = questions.ask({
+    id: "struck",
+    kind: "struck",
+    words: `Struck out: ${words}. Do they count?`,
+    options: [
+      { key: "no", words: "No: leave them out", choice: `Struck out in the workbook, and left out: ${words}` },
+      { key: "yes", words: "Yes: read them like the others", choice: `Struck out in the workbook, and read: ${words}` },
+    ],
+  });
+  return answer === "yes" ? lines : lines.filter(({ row }) => !rows.includes(row));
+}
+
 /** Finds totals, headings and chairs, and asks about them. */
 function arranged(sheet: Sheet, layout: Layout, answers: Answers, questions: Questions): Arranged {
-  const all = withoutAggregates(linesOf(sheet, layout, answers.leftOut), questions);
-  const { lines, blocks, notices } = withTotals(withHeadings(all, questions), questions);
-  askChairs(lines.filter(({ role }) => role === "member" || role === "heading"), layout, questions);
-  const result = seated(lines, blocks, alternateHead(sheet, layout), questions);
+  const given = withoutStruck(sheet, linesOf(sheet, layout, answers.leftOut), questions);
+  const { lines: directed, head } = withDirectors(given, alternateHead(sheet, layout), questions);
+  const all = withHeadings(withoutAggregates(withSums(directed, questions), questions), questions);
+  const { lines: summed, blocks, notices } = withTotals(all, questions);
+  const lines = withChairs(summed, layout, questions);
+  const result = seated(lines, blocks, head, questions);
   const loose = questions.hasOpen("single") ? result : withoutLoose(result.lines, result, questions);
   const found = { lines: loose.lines, seats: withSimilar(loose.seats, questions) };
   // The sums can be compared once it is known which rows are of one chair.
@@ -287,7 +247,7 @@ function rolesOf(lines: readonly Line[], out: ReadonlySet<number>): Map<number, 
 /** Reads a sheet by a layout and the answers given so far. */
 export function readTable(sheet: Sheet, given: Layout, answers: Answers): ReadTable {
   const questions = new Questions(answers);
-  const layout = askVotes(sheet, given, questions);
+  const layout = withOwnRows(askVotes(sheet, given, questions), questions);
   // All else depends on the column of votes.
   const missing = questions.areAnswered ? missingColumn(sheet, layout) : null;
   if (missing || !questions.areAnswered) {

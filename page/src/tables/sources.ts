@@ -1,9 +1,10 @@
-/** Where a table comes from: a text, a web page or a workbook. */
-import { isZip, textOfBytes } from "./bytes";
-import { sheetsOfHtml, type Parse } from "./html";
+/** Where a table comes from: a text, a web page or a workbook; and what else a file may be. */
+import { isData } from "../study/studyData";
+import { textOfBytes } from "./bytes";
+import { bare } from "./html";
 import { sheetOf } from "./text";
 import type { NamedSheet } from "./types";
-import { sheetsOfXlsx } from "./xlsx";
+import { sheetsOfParts, type Parts } from "./xlsx";
 
 /** The sheets to choose from, and what they were read from. */
 export interface Source {
@@ -16,30 +17,46 @@ export interface Source {
   readonly content: string | Uint8Array;
 }
 
-/** A file: a text, or the sheets of a workbook. */
-export type OpenedFile =
-  | { readonly name: string; readonly text: string; readonly notices: readonly string[]; readonly workbook: null }
-  | { readonly name: string; readonly text: ""; readonly notices: readonly []; readonly workbook: Source };
+/** What is read: a file's bytes, a text, or the parts of a workbook. */
+export type Given = { readonly bytes: ArrayBuffer } | { readonly text: string } | { readonly parts: Parts };
 
-/** A text with delimiters. Throws `Unreadable` with a sentence if it is no table. */
-export function sourceOfText(text: string, name: string, notices: readonly string[] = []): Source {
-  return { name, sheets: [{ name, sheet: sheetOf(text, notices) }], text, notices, content: text };
-}
-
-/** The tables of a web page, or of a clipboard with HTML. */
-export function sourceOfHtml(html: string, name: string, parse: Parse): Source {
-  return { name, sheets: sheetsOfHtml(html, parse), text: null, notices: [], content: html };
-}
+/** What is in it: a study, a script, a web page without all that no table needs, or sheets of a table. */
+export type Contents =
+  | { readonly kind: "study"; readonly json: string }
+  | { readonly kind: "script"; readonly text: string }
+  | { readonly kind: "page"; readonly html: string; readonly content: string }
+  | Pick<Source, "sheets" | "text" | "notices"> & { readonly kind: "table" };
 
 /** Whether a text is a web page, or HTML of a clipboard. */
-export function isHtml(text: string): boolean {
+function isHtml(text: string): boolean {
   return /^\ufeff?\s*<(!doctype html|html|head|meta|body|table|\?xml[^>]*>\s*<(!doctype html|html))\b/i.test(text);
 }
 
-/** Opens the bytes of a file. Throws `Unreadable` with a sentence if it is neither a text nor a workbook. */
-export async function openedFile(bytes: ArrayBuffer, name: string, parse: Parse): Promise<OpenedFile> {
-  const content = new Uint8Array(bytes);
-  if (!isZip(content)) return { name, ...textOfBytes(bytes), workbook: null };
-  const sheets = await sheetsOfXlsx(bytes, parse);
-  return { name, text: "", notices: [], workbook: { name, sheets, text: null, notices: [], content } };
+/** A word of a record, in which quotes may stand anywhere. */
+const quotable = (word: string): string => `"*${[...word].join('"*')}"*`;
+const HEADER = new RegExp(`^\\ufeff?[\r\n]*${quotable("member,votes")}[\r\n]`);
+const MARK = new RegExp(`[\r\n]${quotable("script")}([\r\n]|$)`);
+
+/** Whether a text is meant as a script for `board replay`: it begins like one, and has the mark. */
+function isScript(text: string): boolean {
+  return HEADER.test(text) && MARK.test(text);
+}
+
+/** The study in a page that this page has exported, or null. */
+function studyIn(html: string): string | null {
+  const [start = "", , after = ""] = html.split(/(<script\b[^<>]*\bid="study-data"[^<>]*>)/, 3);
+  return start.length < html.length ? after.slice(0, after.indexOf("</script>")) : null;
+}
+
+/** Reads what is given. Throws `Unreadable` with a sentence if it is nothing that the page takes. */
+export function contentsOf(given: Given): Contents {
+  if ("parts" in given) return { kind: "table", sheets: sheetsOfParts(given.parts), text: null, notices: [] };
+  const { text, notices } = "bytes" in given ? textOfBytes(given.bytes) : { ...given, notices: [] };
+  if (isHtml(text)) {
+    const json = studyIn(text);
+    return json === null ? { kind: "page", html: bare(text), content: text } : { kind: "study", json };
+  }
+  if (isData(text)) return { kind: "study", json: text };
+  if (isScript(text)) return { kind: "script", text };
+  return { kind: "table", sheets: [{ name: "", sheet: sheetOf(text, notices) }], text, notices };
 }

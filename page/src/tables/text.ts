@@ -39,14 +39,15 @@ function checkQuotes(text: string, delimiter: string): void {
   throw new Unreadable(`row ${row}: a quoted cell isn't closed, or something follows its quotes`);
 }
 
-/** Cells without blanks around them, and without empty rows at the end, as a sheet. */
+/** Cells without blanks around them, and without empty rows at the end, as a sheet. Struck rows count from 0. */
 export function sheetOfCells(
   cells: readonly (readonly string[])[],
   delimiter = "",
   notices: readonly string[] = [],
+  struck: ReadonlySet<number> = new Set(),
 ): Sheet {
   const trimmed = cells.map((row) => row.map((cell) => cell.trim()));
-  const { rows: split, from, to } = splitLines(trimmed);
+  const { rows: split, from, to, origins } = splitLines(trimmed);
   const became = `${counted(from, "row")} became ${counted(to, "row")}, one for each line`;
   const said = from ? [`Cells of several lines: ${became}`] : [];
   const rows = [...split];
@@ -55,7 +56,8 @@ export function sheetOfCells(
     throw new Unreadable(`This table has ${counted(rows.length, "row")}, and a board has at most 256 members.`);
   }
   const width = rows.reduce((most, row) => Math.max(most, row.length), 0);
-  return { rows, width, delimiter, notices: [...notices, ...said] };
+  const out = origins.flatMap((origin, at) => (struck.has(origin) ? [at + 1] : []));
+  return { rows, width, delimiter, notices: [...notices, ...said], ...(out.length ? { struck: out } : {}) };
 }
 
 /** Refuses what this page itself exports and what has no columns. */

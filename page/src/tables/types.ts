@@ -22,6 +22,8 @@ export interface Sheet {
   readonly delimiter: string;
   /** How the sheet was read, each a sentence. */
   readonly notices: readonly string[];
+  /** The rows of which all cells are struck out. */
+  readonly struck?: readonly number[];
 }
 
 /** A sheet of a workbook, or a table of a web page. */
@@ -64,6 +66,7 @@ export type QuestionKind =
   | "sums" // printed totals of chairs that differ from the sums
   | "repeat" // the same name twice
   | "aggregate" // a row that may be the sum of members, such as a group or a region
+  | "struck" // rows that are struck out
   | "similar" // names of chairs that are nearly equal
   | "outside" // votes that the table leaves out
   | "suspended"; // words on a suspension outside of its column

@@ -1,11 +1,9 @@
-/** Workbooks of Excel (.xlsx) as sheets. */
-import JSZip from "jszip";
-import { zipWords } from "./bytes";
+/** Workbooks of Excel (.xlsx) as sheets, from their unpacked parts. */
 import { filledNotice, MOST_ROWS } from "./grid";
-import { CellCount, checkTags, MOST_PART, MOST_PARTS } from "./limits";
-import type { Parse } from "./html";
+import { CellCount } from "./limits";
 import { sheetOfCells } from "./text";
 import { Unreadable, type NamedSheet } from "./types";
+import { xmlOf, type Element } from "./xml";
 
 const MOST_COLUMNS = 200;
 /** The sheets of the workbook that the page exports. */
@@ -21,55 +19,18 @@ type Format = "date" | "percent" | "plain";
 interface Shared {
   readonly texts: readonly string[];
   readonly formats: readonly Format[];
+  /** Whether the font of each format is struck out. */
+  readonly struck: readonly boolean[];
   /** Days between 1970 and the day 0 of the workbook's dates. */
   readonly epoch: number;
 }
 
-/** A workbook's zip file, and how many letters of it were unpacked. */
-interface Packed {
-  readonly zip: JSZip;
-  unpacked: number;
-}
-
-/** The text of a part of the zip file; empty if there is none. It stops unpacking at the limits. */
-async function partOf(packed: Packed, name: string): Promise<string> {
-  const part = packed.zip.file(name);
-  if (!part) return "";
-  return new Promise((resolve, reject) => {
-    const pieces: string[] = [];
-    let size = 0;
-    const stream = part.internalStream("string");
-    stream.on("data", (piece) => {
-      size += piece.length;
-      packed.unpacked += piece.length;
-      pieces.push(piece);
-      if (size <= MOST_PART && packed.unpacked <= MOST_PARTS) return;
-      stream.pause();
-      pieces.length = 0;
-      reject(new Unreadable(`This workbook is too large: its part ${name} has more than a table of members.`));
-    });
-    stream.on("error", () => reject(new Unreadable("This workbook is damaged.")));
-    stream.on("end", () => resolve(pieces.join("")));
-    stream.resume();
-  });
-}
-
-/** A part as a document. Entities of its own, which may unpack to very much, are refused. */
-function documentOf(text: string, parse: Parse): Document {
-  if (/<!(DOCTYPE|ENTITY)/i.test(text)) throw new Unreadable("This workbook is damaged: it defines entities.");
-  checkTags(text, "This workbook");
-  return parse(text || "<none/>", "application/xml");
-}
-
-/** The elements of a name below a node, whatever their namespace is called. */
-function all(node: Document | Element, name: string): Element[] {
-  return [...node.getElementsByTagNameNS("*", name)];
-}
-
 /** The text of a string with formats in it, without what says how it is pronounced. */
 function richText(node: Element): string {
-  const texts = all(node, "t").filter((it) => it.parentElement?.localName !== "rPh");
-  return texts.map((it) => it.textContent ?? "").join("");
+  return node.children.map((it) => {
+    if (typeof it === "string" || it.name === "rPh") return "";
+    return it.name === "t" ? it.text() : richText(it);
+  }).join("");
 }
 
 function formatOf(id: number, custom: ReadonlyMap<number, string>): Format {
@@ -78,12 +39,19 @@ function formatOf(id: number, custom: ReadonlyMap<number, string>): Format {
   return DATES.has(id) || /[dmyhs]/i.test(code.replace(/general/i, "")) ? "date" : "plain";
 }
 
-function formatsOf(styles: Document): Format[] {
-  const custom = new Map(all(styles, "numFmt").map((it) =>
-    [Number(it.getAttribute("numFmtId")), it.getAttribute("formatCode") ?? ""] as const));
-  const cells = all(styles, "cellXfs")[0];
-  const formats = cells ? all(cells, "xf") : [];
-  return formats.map((it) => formatOf(Number(it.getAttribute("numFmtId")), custom));
+function formatsOf(styles: Element): Format[] {
+  const custom = new Map(styles.all("numFmt").map((it) =>
+    [Number(it.attribute("numFmtId")), it.attribute("formatCode") ?? ""] as const));
+  const formats = styles.all("cellXfs")[0]?.all("xf") ?? [];
+  return formats.map((it) => formatOf(Number(it.attribute("numFmtId")), custom));
+}
+
+/** Whether each format of cells has a font that is struck out. */
+function struckOf(styles: Element): boolean[] {
+  const isOn = (it: Element) => !/^(0|false)$/.test(it.attribute("val") ?? "1");
+  const fonts = (styles.all("fonts")[0]?.all("font") ?? []).map((it) => it.all("strike").some(isOn));
+  const formats = styles.all("cellXfs")[0]?.all("xf") ?? [];
+  return formats.map((it) => fonts[Number(it.attribute("fontId") ?? "0")] ?? false);
 }
 
 /** A date as year, month and day. */
@@ -102,15 +70,15 @@ function numberText(text: string, format: Format, epoch: number): string {
 }
 
 function cellText(cell: Element, { texts, formats, epoch }: Shared): string {
-  const value = all(cell, "v")[0]?.textContent ?? "";
-  switch (cell.getAttribute("t")) {
+  const value = cell.all("v")[0]?.text() ?? "";
+  switch (cell.attribute("t")) {
     case "s": return texts[Number(value)] ?? "";
-    case "inlineStr": return all(cell, "is").map(richText).join("");
+    case "inlineStr": return cell.all("is").map(richText).join("");
     case "b": return value === "1" ? "true" : "false";
     case "str":
     case "e":
     case "d": return value;
-    default: return numberText(value, formats[Number(cell.getAttribute("s") ?? "0")] ?? "plain", epoch);
+    default: return numberText(value, formats[Number(cell.attribute("s") ?? "0")] ?? "plain", epoch);
   }
 }
 
@@ -126,11 +94,11 @@ function isInside({ row, column }: { row: number; column: number }): boolean {
 }
 
 /** Fills merged cells down in a grid. Returns into how many cells. */
-function fillMerged(grid: string[][], sheet: Document): number {
+function fillMerged(grid: string[][], sheet: Element): number {
   let filled = 0;
   const count = new CellCount();
-  for (const merged of all(sheet, "mergeCell")) {
-    const [first = "", last = ""] = (merged.getAttribute("ref") ?? "").split(":");
+  for (const merged of sheet.all("mergeCell")) {
+    const [first = "", last = ""] = (merged.attribute("ref") ?? "").split(":");
     const [from, to] = [placeOf(first), placeOf(last)];
     const text = grid[from.row]?.[from.column] ?? "";
     for (let row = from.row + 1; text !== "" && isInside(from) && row <= Math.min(to.row, grid.length - 1); row += 1) {
@@ -143,89 +111,96 @@ function fillMerged(grid: string[][], sheet: Document): number {
   return filled;
 }
 
-function hiddenNotice(sheet: Document): string[] {
-  const hidden = all(sheet, "row").filter((row) => /^(1|true)$/.test(row.getAttribute("hidden") ?? ""));
-  const rows = hidden.map((row) => row.getAttribute("r")).join(", ");
+function hiddenNotice(sheet: Element): string[] {
+  const hidden = sheet.all("row").filter((row) => /^(1|true)$/.test(row.attribute("hidden") ?? ""));
+  const rows = hidden.map((row) => row.attribute("r")).join(", ");
   return hidden.length ? [`Hidden rows were read like the others: ${rows}`] : [];
 }
 
-function cellsOf(sheet: Document, shared: Shared): { grid: string[][]; filled: number } {
+/** The cells of a sheet, into how many merged cells were filled, and the rows that are struck out, from 0. */
+interface Laid {
+  readonly grid: string[][];
+  readonly filled: number;
+  readonly struck: ReadonlySet<number>;
+}
+
+function cellsOf(sheet: Element, shared: Shared): Laid {
   const grid: string[][] = [];
+  const [struck, plain] = [new Set<number>(), new Set<number>()];
   const count = new CellCount();
-  all(sheet, "row").forEach((row, at) => {
-    const number = Number(row.getAttribute("r") ?? grid.length + 1) - 1;
-    all(row, "c").forEach((cell, place) => {
-      const reference = cell.getAttribute("r");
+  sheet.all("row").forEach((row, at) => {
+    const number = Number(row.attribute("r") ?? grid.length + 1) - 1;
+    row.all("c").forEach((cell, place) => {
+      const reference = cell.attribute("r");
       const to = reference ? placeOf(reference) : { row: Math.max(number, at), column: place };
       if (!isInside(to)) throw new Unreadable(`This sheet has more than ${MOST_ROWS} rows or ${MOST_COLUMNS} columns.`);
       count.add(1);
       while (grid.length <= to.row) grid.push([]);
       const line = grid[to.row];
-      if (line) line[to.column] = cellText(cell, shared);
+      const text = cellText(cell, shared);
+      if (line) line[to.column] = text;
+      if (text) (shared.struck[Number(cell.attribute("s") ?? "0")] ? struck : plain).add(to.row);
     });
   });
   const filled = fillMerged(grid, sheet);
-  return { grid: grid.map((row) => Array.from(row, (cell) => cell ?? "")), filled };
+  const rows = [...struck].filter((it) => !plain.has(it));
+  return { grid: grid.map((row) => Array.from(row, (cell) => cell ?? "")), filled, struck: new Set(rows) };
 }
 
-/** Reads the parts that the sheets refer to. */
-async function sharedOf(packed: Packed, workbook: Document, folder: string, parse: Parse): Promise<Shared> {
-  const part = async (name: string) => documentOf(await partOf(packed, folder + name), parse);
-  const [strings, styles] = [await part("sharedStrings.xml"), await part("styles.xml")];
-  const is1904 = all(workbook, "workbookPr").some((it) => /^(1|true)$/.test(it.getAttribute("date1904") ?? ""));
-  return { texts: all(strings, "si").map(richText), formats: formatsOf(styles), epoch: is1904 ? -24107 : -25569 };
+/** The unpacked parts of a workbook by their paths; null for one that is larger than a table of members. */
+export type Parts = Readonly<Record<string, string | null>>;
+
+const FOLDER = "xl/";
+
+function partOf(parts: Parts, path: string): Element {
+  const text = parts[path] ?? "";
+  if (parts[path] !== null) return xmlOf(text);
+  throw new Unreadable(`This workbook is too large: its part ${path} has more than a table of members.`);
+}
+
+/** What the sheets refer to. */
+function sharedOf(parts: Parts, workbook: Element): Shared {
+  const [strings, styles] = [partOf(parts, `${FOLDER}sharedStrings.xml`), partOf(parts, `${FOLDER}styles.xml`)];
+  const is1904 = workbook.all("workbookPr").some((it) => /^(1|true)$/.test(it.attribute("date1904") ?? ""));
+  const epoch = is1904 ? -24107 : -25569;
+  return { texts: strings.all("si").map(richText), formats: formatsOf(styles), struck: struckOf(styles), epoch };
 }
 
 /** The path of each sheet's part by its relation. */
-async function targetsOf(packed: Packed, folder: string, parse: Parse): Promise<Map<string, string>> {
-  const relations = documentOf(await partOf(packed, `${folder}_rels/workbook.xml.rels`), parse);
-  return new Map(all(relations, "Relationship").map((it) => {
-    const target = it.getAttribute("Target") ?? "";
-    return [it.getAttribute("Id") ?? "", target.startsWith("/") ? target.slice(1) : folder + target];
+function targetsOf(parts: Parts): Map<string, string> {
+  return new Map(partOf(parts, `${FOLDER}_rels/workbook.xml.rels`).all("Relationship").map((it) => {
+    const target = it.attribute("Target") ?? "";
+    return [it.attribute("Id") ?? "", target.startsWith("/") ? target.slice(1) : FOLDER + target];
   }));
 }
 
-async function opened(bytes: ArrayBuffer): Promise<JSZip> {
-  try {
-    return await JSZip.loadAsync(bytes);
-  } catch {
-    throw new Unreadable("This zip file or workbook is damaged, or locked with a password.");
-  }
-}
-
 /** A sheet by its entry in the workbook and its cells. */
-function sheetOf(entry: Element, sheet: Document, shared: Shared): NamedSheet {
-  const { grid, filled } = cellsOf(sheet, shared);
-  const isHidden = (entry.getAttribute("state") ?? "visible") !== "visible";
-  const name = `${entry.getAttribute("name") ?? ""}${isHidden ? " (hidden)" : ""}`;
-  return { name, sheet: sheetOfCells(grid, "", [...filledNotice(filled), ...hiddenNotice(sheet)]) };
+function sheetOf(entry: Element, sheet: Element, shared: Shared): NamedSheet {
+  const { grid, filled, struck } = cellsOf(sheet, shared);
+  const isHidden = (entry.attribute("state") ?? "visible") !== "visible";
+  const name = `${entry.attribute("name") ?? ""}${isHidden ? " (hidden)" : ""}`;
+  return { name, sheet: sheetOfCells(grid, "", [...filledNotice(filled), ...hiddenNotice(sheet)], struck) };
 }
 
-/** The sheets of a workbook that have cells. Throws `Unreadable` with a sentence if the file is no workbook. */
-export async function sheetsOfXlsx(bytes: ArrayBuffer, parse: Parse): Promise<NamedSheet[]> {
-  const packed = { zip: await opened(bytes), unpacked: 0 };
-  const names = Object.keys(packed.zip.files);
-  const folder = "xl/";
-  const text = await partOf(packed, `${folder}workbook.xml`);
-  if (!text) throw new Unreadable(zipWords(names));
-  const workbook = documentOf(text, parse);
-  const [shared, targets] = [await sharedOf(packed, workbook, folder, parse), await targetsOf(packed, folder, parse)];
-  const entries = all(workbook, "sheet").map((it) => it.getAttribute("name") ?? "");
-  if (entries.join() === OWN_SHEETS) {
+/** The sheets of a workbook that have cells. Throws `Unreadable` with a sentence if there are none. */
+export function sheetsOfParts(parts: Parts): NamedSheet[] {
+  const workbook = partOf(parts, `${FOLDER}workbook.xml`);
+  const [shared, targets] = [sharedOf(parts, workbook), targetsOf(parts)];
+  const entries = workbook.all("sheet");
+  if (entries.map((it) => it.attribute("name") ?? "").join() === OWN_SHEETS) {
     throw new Unreadable("This is the workbook of results that this page exports: it has chairs and their power, and " +
       "no members. Open the exported script or page, or a table of members.");
   }
   const sheets: NamedSheet[] = [];
   const unread: string[] = [];
-  for (const it of all(workbook, "sheet")) {
-    const relation = [...it.attributes].find(({ localName, name }) => localName === "id" && name !== "sheetId");
+  for (const it of entries) {
+    const [, relation = ""] = [...it.attributes].find(([name]) => /:id$/.test(name)) ?? [];
     try {
-      const part = await partOf(packed, targets.get(relation?.value ?? "") ?? "");
-      const named = part ? sheetOf(it, documentOf(part, parse), shared) : null;
-      if (named?.sheet.rows.length) sheets.push(named);
+      const named = sheetOf(it, partOf(parts, targets.get(relation) ?? ""), shared);
+      if (named.sheet.rows.length) sheets.push(named);
     } catch (why) {
       if (!(why instanceof Unreadable)) throw why;
-      unread.push(`The sheet '${it.getAttribute("name") ?? ""}' wasn't read. ${why.message}`);
+      unread.push(`The sheet '${it.attribute("name") ?? ""}' wasn't read. ${why.message}`);
     }
   }
   if (!sheets.length) throw new Unreadable(unread[0] ?? "There is nothing in this workbook.");

@@ -2,7 +2,7 @@
 import type { App } from "./app";
 import { byId } from "./dom";
 import { aim } from "./drag";
-import { moveTo, say } from "./moves";
+import { moveTo, say, who } from "./moves";
 
 function cards(): HTMLElement[] {
   return [...byId("cards").querySelectorAll<HTMLElement>(".card")];
@@ -19,12 +19,12 @@ function carry(app: App, code: string, card: HTMLElement | null): void {
 function pick(app: App, chip: HTMLElement): void {
   const code = chip.dataset["code"] ?? "";
   carry(app, code, chip.closest<HTMLElement>(".card"));
-  say(`${code} is picked up. Arrow keys choose a chair, Enter drops it there, Escape leaves it.`);
+  say(`${who(app, code)} is picked up. Arrow keys choose a chair, Enter drops it there, Escape leaves it.`);
 }
 
 function leave(app: App): void {
   if (!app.open.carried) return;
-  say(`${app.open.carried.code} stays where it was.`);
+  say(`${who(app, app.open.carried.code)} stays where it was.`);
   carry(app, "", null);
 }
 

@@ -187,11 +187,11 @@ function emptied({ shown }: App): number[] {
 function emptiedWords(app: App): Child {
   const chairs = emptied(app);
   if (!chairs.length) return null;
-  const which = chairs.length === 1 ? `Chair ${chairs[0]} has` : `Chairs ${listed(chairs.map(String))} have`;
+  const isOne = chairs.length === 1;
+  const which = isOne ? `Chair ${chairs[0]} has` : `Chairs ${listed(chairs.map(String))} have`;
   const close = () => app.take(withAdded(app.study, emptied(app).map((chair) => ({ kind: "close", chair }))));
-  const words = chairs.length === 1 ? "Close it" : "Close them";
-  return [`${which} no member now, and still count as open for the quorum. `,
-    button(words, close, { id: "close-emptied", live: true })];
+  return [`${which} no member now, and still ${isOne ? "counts" : "count"} as open for the quorum. `,
+    button(isOne ? "Close it" : "Close them", close, { id: "close-emptied", live: true })];
 }
 
 /** Paints the list of changes, and the choices made when the table was read. */

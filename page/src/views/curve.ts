@@ -110,7 +110,7 @@ function tableOf(app: App, model: CurveModel, found: Curve): HTMLElement {
       const chair = chairIn(all.get(it), model.chair);
       const ratio = chair ? measureOf(chair, measure) : null;
       const text = app.view.fractions ? fractionText(ratio) : valueText(ratio, measure, digits);
-      return h("td", { title: chair ? `${fractionText(ratio)} (counted: ${MEASURE[measure].column})` : "" }, text);
+      return h("td", { title: chair ? `${fractionText(ratio)} (${MEASURE[measure].from})` : "" }, text);
     });
     return h(
       "tr",

@@ -1,7 +1,7 @@
 /** Dragging a member to a card by mouse, pen or finger. */
 import type { App } from "./app";
 import { byId, h } from "./dom";
-import { moveTo, say } from "./moves";
+import { moveTo, say, who } from "./moves";
 
 /** The pixels that a pointer moves before its press is a drag. */
 const SLOP = 5;
@@ -101,14 +101,14 @@ class Drag {
     if (!isDrag) return;
     swallowClick();
     if (place) void moveTo(this.app, press.code, place);
-    else say(`${press.code} stays where it was.`);
+    else say(`${who(this.app, press.code)} stays where it was.`);
   }
 
   /** Ends a drag without a drop. */
   cancel(): void {
     const [code, isDrag] = [this.#press?.code, this.isDragging];
     this.#rest();
-    if (isDrag) say(`${code} stays where it was.`);
+    if (isDrag) say(`${who(this.app, code ?? "")} stays where it was.`);
   }
 
   #begin(): void {

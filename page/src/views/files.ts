@@ -2,30 +2,26 @@
 import type { App } from "./app";
 import { grouped } from "../study/fractions";
 import { Cancelled } from "../engine/pausing";
+import { inSteps } from "../engine/pool";
 import { Refusal } from "../engine/problem";
 import { scriptOf } from "../study/script";
 import { hashOf } from "../study/made";
-import { isData, readData, type StudyData } from "../study/studyData";
+import { readData, type StudyData } from "../study/studyData";
 import { studyOf, type Base } from "../study/study";
+import { isZip } from "../tables/bytes";
+import { sheetsOfHtml } from "../tables/html";
 import { checkSize } from "../tables/limits";
-import { isHtml, openedFile, sourceOfHtml, sourceOfText, type OpenedFile } from "../tables/sources";
+import { contentsOf, type Contents, type Given, type Source } from "../tables/sources";
+import { partsOfXlsx } from "../tables/unzip";
 import { reasonOf } from "../study/words";
 import { refuse } from "./refusal";
 import { openTable } from "./tableDialog";
 
 const KEPT = "The study before it stays as it was.";
 
-/** Makes a document of HTML or XML. */
-function parsed(text: string, type: "text/html" | "application/xml"): Document {
+/** Makes a document of HTML. */
+function parsed(text: string, type: "text/html"): Document {
   return new DOMParser().parseFromString(text, type);
-}
-
-/** Reads a page that this page has exported, or the tables of another one. */
-async function takePage(app: App, html: string, name: string): Promise<void> {
-  if (!/\bid="study-data"/.test(html)) return openTable(app, sourceOfHtml(html, name, parsed));
-  const data = readData(parsed(html, "text/html").getElementById("study-data")?.textContent ?? "null");
-  if (!data) throw new Error("the page has no study in it");
-  await takeData(app, data);
 }
 
 function choicesOf(isOwn: boolean, long: number): string[] {
@@ -76,27 +72,10 @@ async function takeData(app: App, { study, view, scriptHash }: StudyData): Promi
 /** Reads a saved study, and the script if it came with it. */
 async function takeBeside(app: App, json: string, script: string | null): Promise<void> {
   const data = readData(json);
-  if (!data) throw new Error("the file has no study in it");
+  if (!data) throw new Error("there is no study in it");
   await takeData(app, data);
   if (script === null || app.shown?.counted.script === script) return;
   refuse("The script and the file next to it are not of one study.", "The file's study is shown.");
-}
-
-/** A word of a record, in which quotes may stand anywhere. */
-const quotable = (word: string): string => `"*${[...word].join('"*')}"*`;
-const HEADER = new RegExp(`^\\ufeff?[\r\n]*${quotable("member,votes")}[\r\n]`);
-const MARK = new RegExp(`[\r\n]${quotable("script")}([\r\n]|$)`);
-
-/** Whether a text is meant as a script for `board replay`: it begins like one, and has the mark. */
-function isScript(text: string): boolean {
-  return HEADER.test(text) && MARK.test(text);
-}
-
-async function takeText(app: App, text: string, name: string, notices: readonly string[]): Promise<void> {
-  if (isHtml(text)) await takePage(app, text, name);
-  else if (isData(text)) await takeBeside(app, text, null);
-  else if (isScript(text)) await takeScript(app, text, name);
-  else openTable(app, sourceOfText(text, name, notices));
 }
 
 function wordsOf(why: unknown): string {
@@ -105,13 +84,42 @@ function wordsOf(why: unknown): string {
   return `fault,${why.record},${why.name}: ${reasonOf(why.name)}${why.record ? `, at record ${why.record}` : ""}`;
 }
 
-/** Reads a text, and reports why if it can't. */
-export async function readText(app: App, text: string, name: string, notices: readonly string[] = []): Promise<void> {
-  try {
-    await takeText(app, text, name, notices);
-  } catch (why) {
-    if (!(why instanceof Cancelled)) refuse(wordsOf(why), KEPT);
+/** A shorter text is read at once, and a longer one by a worker. */
+const SHORT = 65_536;
+
+/** Reads what is given in a worker of its own, which ends if a person doesn't want to wait. */
+async function read(app: App, given: Given | Promise<Given>): Promise<Contents> {
+  if ("text" in given && given.text.length < SHORT) return contentsOf(given);
+  const { boards } = app.counter;
+  return app.wait("The table is being read.", async () =>
+    inSteps(async (step) => step(boards.ask("read", await given))));
+}
+
+/** A table, for its preview. */
+function tableOf(name: string, found: Contents & { kind: "table" | "page" }, bytes: Uint8Array | null): Source {
+  if (found.kind === "page") {
+    return { name, sheets: sheetsOfHtml(found.html, parsed), text: null, notices: [], content: found.content };
   }
+  const { sheets, text, notices } = found;
+  return { name, sheets, text, notices, content: text ?? bytes ?? "" };
+}
+
+async function take(app: App, found: Contents, name: string, bytes: Uint8Array | null = null): Promise<void> {
+  if (found.kind === "study") await takeBeside(app, found.json, null);
+  else if (found.kind === "script") await takeScript(app, found.text, name);
+  else openTable(app, tableOf(name, found, bytes));
+}
+
+/** Reports why a task can't be done. */
+async function orSay(task: Promise<void>): Promise<void> {
+  await task.catch((why: unknown) => {
+    if (!(why instanceof Cancelled)) refuse(wordsOf(why), KEPT);
+  });
+}
+
+/** Reads a text, and reports why if it can't. */
+export function readText(app: App, text: string, name: string): Promise<void> {
+  return orSay(read(app, { text }).then((found) => take(app, found, name)));
 }
 
 function bareName(name: string): string {
@@ -123,24 +131,34 @@ export function refusePaste(title: string): void {
   refuse(`A table was pasted while the dialog '${title}' is open. Close the dialog, and paste the table again.`, KEPT);
 }
 
-async function opened(file: File): Promise<OpenedFile> {
+/** A file that was read. */
+interface Opened {
+  readonly name: string;
+  readonly bytes: Uint8Array;
+  readonly found: Contents;
+}
+
+async function opened(app: App, file: File): Promise<Opened> {
   checkSize(file.size);
-  return openedFile(await file.arrayBuffer(), bareName(file.name), parsed);
+  const buffer = await file.arrayBuffer();
+  const bytes = new Uint8Array(buffer);
+  const given = isZip(bytes) ? partsOfXlsx(buffer).then((parts) => ({ parts })) : { bytes: buffer };
+  return { name: bareName(file.name), bytes, found: await read(app, given) };
 }
 
 async function takeFiles(app: App, files: readonly File[]): Promise<void> {
-  const read = await Promise.all(files.map(opened));
-  const dataFile = read.find((it) => isData(it.text));
-  const script = read.find((it) => isScript(it.text));
-  const [first] = read;
-  if (dataFile && script) await takeBeside(app, dataFile.text, script.text);
-  else if (read.length > 1) {
+  const all: Opened[] = [];
+  for (const file of files) all.push(await opened(app, file));
+  const [study, script] = [all.find((it) => it.found.kind === "study"), all.find((it) => it.found.kind === "script")];
+  const [first] = all;
+  if (study?.found.kind === "study" && script?.found.kind === "script") {
+    await takeBeside(app, study.found.json, script.found.text);
+  } else if (all.length > 1) {
     refuse("Several files: a script and the file next to it can be dropped together, others one by one.", KEPT);
-  } else if (first?.workbook) openTable(app, first.workbook);
-  else if (first) await readText(app, first.text, first.name, first.notices);
+  } else if (first) await take(app, first.found, first.name, first.bytes);
 }
 
 /** Reads files: one, or a script and the file next to it. Reports why if it can't. */
-export async function readFiles(app: App, files: readonly File[]): Promise<void> {
-  await takeFiles(app, files).catch((why: unknown) => refuse(wordsOf(why), KEPT));
+export function readFiles(app: App, files: readonly File[]): Promise<void> {
+  return orSay(takeFiles(app, files));
 }

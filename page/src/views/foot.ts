@@ -9,13 +9,13 @@ import { MAJORITY, MEASURE, measureTitle } from "../study/words";
 import { openCitation } from "./citation";
 
 function definitions({ view }: App): HTMLElement {
-  const { column, definition, source } = MEASURE[view.measure];
+  const { from, definition, source } = MEASURE[view.measure];
   const majorities = view.majorities.map((it) => [
     h("dt", {}, MAJORITY[it].label),
     h("dd", {}, `${MAJORITY[it].rule}. Articles of Agreement, ${MAJORITY[it].article}: ${MAJORITY[it].about}.`),
   ]);
   return h("dl", {},
-    h("dt", {}, measureTitle(view.measure)), h("dd", {}, `${definition} (${source}; ${column} in the lines).`),
+    h("dt", {}, measureTitle(view.measure)), h("dd", {}, `${definition} (${source}; ${from}).`),
     h("dt", {}, "Votes"), h(
       "dd",
       {},

@@ -15,6 +15,11 @@ export function say(words: string): void {
   byId("live").textContent = words;
 }
 
+/** A member by code and name. */
+export function who(app: App, code: string): string {
+  return memberWords(code, app.shown?.counted.standing.memberName(code));
+}
+
 /** The place of a member in words. */
 function where(app: App, chair: number | null): string {
   if (chair === null || !app.shown) return "no chair";

@@ -102,7 +102,7 @@ function joinForm(app: App, id: string, codes: Codes, close: () => void): Child 
     const found = codes();
     if (!found) return;
     close();
-    void operate(app, { kind: "join", codes: found, to: choice === "none" ? null : Number(choice) }, choice);
+    void operate(app, { kind: "move", codes: found, to: choice === "none" ? null : Number(choice) }, choice);
   });
 }
 

@@ -11,6 +11,11 @@ import { MAJORITY } from "../study/words";
 /** Names of registers that no scenario may have. */
 const TAKEN = ["base", "changed"];
 
+/** Whether no scenario of a study can get a name. */
+export function isTaken(study: Study, name: string): boolean {
+  return TAKEN.includes(name) || study.scenarios.some((it) => it.name === name);
+}
+
 function kept(study: Study, name: string): Study {
   const first = freshId(study);
   const changes = study.changes.map((it, at) => ({ ...it, id: first + at }));
@@ -85,9 +90,9 @@ function form(app: App): HTMLElement {
   const submit = (event: Event) => {
     event.preventDefault();
     const words = name.value.trim().replace(/\s+/g, " ");
-    const isTaken = TAKEN.includes(words) || app.study.scenarios.some((it) => it.name === words);
-    if (isTaken) said.textContent = `The name ${isolated(words)} is taken.`;
-    if (isTaken || !words) return;
+    const isUsed = isTaken(app.study, words);
+    if (isUsed) said.textContent = `The name ${isolated(words)} is taken.`;
+    if (isUsed || !words) return;
     name.value = "";
     app.take(kept(app.study, words));
   };

@@ -3,14 +3,16 @@ import type { Look } from "../charts/charts";
 import { drawSizes } from "../charts/sizesChart";
 import { h, type Child } from "./dom";
 import { counted, fractionText, grouped, percent } from "../study/fractions";
-import { checkWords, shareOfSize, sizesModel, type SizesModel } from "../engine/sizes";
+import type { Reading } from "../engine/reading";
+import { blockingOfSize, checkWords, shareOfSize, sizesModel, type SizesModel } from "../engine/sizes";
 import { MAJORITY, type Majority } from "../study/words";
 import { chartPlace, pointAt, tableBehind } from "./chartParts";
 import { lookedAt, type Looked } from "./coalitionParts";
 
 const NOTE =
   "How many coalitions of each number of chairs win, and how many there are, made here. The winning ones of all " +
-  "numbers of chairs are added up, and the register counts them on its own.";
+  "numbers of chairs are added up, and the register counts them on its own. A coalition can block if the other " +
+  "chairs lose: of k of n chairs, as many block as there are, less the winning ones of n - k chairs.";
 
 function modelOf({ shown }: Looked): SizesModel {
   return sizesModel(shown.counted.after);
@@ -37,10 +39,11 @@ function sizeWords({ app: { view }, readings }: Looked, model: SizesModel, size:
   const items = readings.map(({ majority }) => {
     const winning = grouped(model.winning.get(majority)?.[size] ?? 0);
     const share = shareText(model, majority, size, view.digits);
-    return h("li", {}, `${MAJORITY[majority].label}: ${winning}, ${share} (made here)`);
+    const block = grouped(blockingOfSize(model, majority, size));
+    return h("li", {}, `${MAJORITY[majority].label}: ${winning} win, ${share}; ${block} can block (made here)`);
   });
   const many = counted(model.all[size] ?? 0, "coalition");
-  return [h("strong", {}, `${counted(size, "chair")}: ${many}, of which win`), h("ul", {}, items)];
+  return [h("strong", {}, `${counted(size, "chair")}: ${many}`), h("ul", {}, items)];
 }
 
 function sizeRow({ app: { view }, readings }: Looked, model: SizesModel, size: number): HTMLElement {
@@ -49,31 +52,36 @@ function sizeRow({ app: { view }, readings }: Looked, model: SizesModel, size: n
     return [
       h("td", {}, grouped(model.winning.get(majority)?.[size] ?? 0)),
       h("td", { title }, shareText(model, majority, size, view.digits)),
+      h("td", {}, grouped(blockingOfSize(model, majority, size))),
     ];
   });
   return h("tr", { "data-size": size }, h("th", { scope: "row" }, String(size)),
     h("td", {}, grouped(model.all[size] ?? 0)), cells);
 }
 
-/** The last rows: the sums over all sizes, and what the register counts. */
-function footOf({ readings }: Looked, { all, winning }: SizesModel): HTMLElement[] {
-  const row = (words: string, mark: string, coalitions: number, of: (majority: Majority, at: number) => number) =>
+/** The last rows: the sums over all sizes, and what the register counts. As many block as lose: all but the winning. */
+function footOf({ readings }: Looked, model: SizesModel): HTMLElement[] {
+  const cells = (winning: number, all: number) => [winning, null, all - winning].map((it) =>
+    h("td", {}, it === null ? "" : grouped(it)),
+  );
+  const sum = (some: readonly number[]) => some.reduce((total, it) => total + it, 0);
+  const row = (words: string, mark: string, all: number, winning: (it: Reading) => number) =>
     h("tr", {},
       h("th", { scope: "row", "data-mark": mark }, words),
-      h("td", {}, grouped(coalitions)),
-      readings.map(({ majority }, at) => [h("td", {}, grouped(of(majority, at))), h("td", {})]),
+      h("td", {}, grouped(all)),
+      readings.map((it) => cells(winning(it), all)),
     );
-  const sum = (some: readonly number[]) => some.reduce((total, it) => total + it, 0);
   return [
-    row("Sum", "made here", sum(all), (it) => sum(winning.get(it) ?? [])),
-    row("All", "counted", readings[0]?.coalitions ?? 0, (_, at) => readings[at]?.winning ?? 0),
+    row("Sum", "made here", sum(model.all), (it) => sum(model.winning.get(it.majority) ?? [])),
+    row("All", "counted", readings[0]?.coalitions ?? 0, (it) => it.winning),
   ];
 }
 
 function tableOf(looked: Looked, model: SizesModel): HTMLElement {
-  const words = `Winning coalitions by number of chairs, ${looked.board}`;
+  const words = `Winning and blocking coalitions by number of chairs, ${looked.board}`;
   const heads = looked.readings.flatMap(({ majority }) => [
     `Winning, ${MAJORITY[majority].label}`, `Share, ${MAJORITY[majority].label}`,
+    `Can block, ${MAJORITY[majority].label}`,
   ]);
   const columns = ["Coalitions", ...heads].map((it) => h("th", { scope: "col", "data-mark": "made here" }, it));
   return h("div", { class: "scroll", tabindex: 0, role: "region", "aria-label": words },
@@ -98,7 +106,7 @@ export function sizesPart(looked: Looked, look: Look): Child {
   drawSizes(chart, model, look);
   const said = checks(looked).map((it) => h("li", { class: it.holds ? "" : "alarm" }, it.words));
   return [
-    h("h3", {}, "Winning coalitions by number of chairs"),
+    h("h3", {}, "Winning and blocking coalitions by number of chairs"),
     h("p", { class: "note" }, NOTE),
     h("ul", { id: "size-checks" }, said),
     chart,

@@ -5,11 +5,14 @@ import { button, choice, h, paint, save, type Child } from "./dom";
 import { counted, grouped } from "../study/fractions";
 import { hashOf } from "../study/made";
 import { orRefuse } from "./refusal";
-import { studyOf } from "../study/study";
+import { isTaken } from "./scenarios";
+import { isolated, memberWords } from "../study/names";
+import { studyOf, withScenario } from "../study/study";
 import { baseOf } from "../tables/base";
 import { columnName, guessedLayout, layoutWith } from "../tables/columns";
 import type { Thousands } from "../tables/numbers";
 import { faultWords, readTable } from "../tables/read";
+import { secondTable } from "../tables/second";
 import type { Source } from "../tables/sources";
 import { strictTable } from "../tables/strict";
 import { DELIMITER_WORDS, DELIMITERS, sheetOf, sheetOfCells } from "../tables/text";
@@ -270,7 +273,9 @@ function wholeWords({ base }: ReadTable): string {
   const votes = base.members.reduce((sum, it) => sum + it.votes, 0);
   const chairs = new Set(base.members.flatMap(({ chair }) => chair ?? [])).size;
   const none = base.members.filter(({ chair }) => chair === null);
-  const named = none.slice(0, MOST_NAMED).map((it) => `${it.code} (${counted(it.votes, "vote")})`).join(", ");
+  const named = none.slice(0, MOST_NAMED).map((it) => {
+    return `${memberWords(it.code, it.name)} (${counted(it.votes, "vote")})`;
+  }).join(", ");
   const more = none.length > MOST_NAMED ? ` and ${none.length - MOST_NAMED} more` : "";
   const seats = none.length
     ? `${counted(none.length, "member")} in no chair: ${named}${more}`
@@ -286,17 +291,49 @@ async function take(preview: Preview, read: ReadTable, close: () => void): Promi
   app.openStudy(studyOf(name, base));
 }
 
+/** A name for a scenario that no other one has. */
+function freeName(app: App, name: string): string {
+  const names = [name, ...Array.from({ length: 99 }, (_, at) => `${name} ${at + 2}`)];
+  return names.find((it) => it && !isTaken(app.study, it)) ?? "another table";
+}
+
+/** Opens a second table as a scenario of the study that is open, and says what it changes and what no change says. */
+async function compare(preview: Preview, { base: table }: ReadTable, close: () => void): Promise<void> {
+  const { app, source } = preview;
+  const { study, shown } = app;
+  if (!table || !shown) return;
+  const hash = await hashOf(source.content);
+  close();
+  const { opening } = shown.counted;
+  const members = opening.members();
+  const { steps, said } = secondTable({ members, open: opening.open(), chairNames: study.base.chairNames }, table);
+  const name = freeName(app, preview.name.trim().replace(/\s+/g, " "));
+  const head = `The scenario ${isolated(name)} is another table as changes (SHA-256 ${hash}).`;
+  const choices = [...study.base.choices, [head, ...said].join(" "), ...table.choices.map((it) => `${name}: ${it}`)];
+  app.take({ ...withScenario(study, name, steps), base: { ...study.base, choices } });
+  openDialog("compared", `${name}, compared with ${study.name}`, (end) => [
+    said.map((it) => h("p", {}, it)),
+    h("p", { class: "note" }, "It is kept as a scenario, and its changes are in the list."),
+    button("OK", end, { id: "compared-ok", class: "primary" }),
+  ]);
+}
+
 function saveStrict(preview: Preview, read: ReadTable): void {
   if (read.base) save(`${preview.name}-members.csv`, new Blob([strictTable(read.base)], { type: "text/csv" }));
 }
 
 function buttons(preview: Preview, read: ReadTable, close: () => void): HTMLElement {
   const disabled = read.base === null;
+  const { app } = preview;
+  const isOpen = !app.isExample && app.shown !== null;
   return h(
     "div",
     { class: "buttons" },
-    button("Take this table", () => orRefuse(take(preview, read, close)), {
+    button(isOpen ? "A new study" : "Take this table", () => orRefuse(take(preview, read, close)), {
       id: "table-take", class: "primary", disabled,
+    }),
+    isOpen && button(`Compare with ${isolated(app.study.name)}`, () => orRefuse(compare(preview, read, close)), {
+      id: "table-compare", class: "primary", disabled,
     }),
     button("Save it cleaned, as CSV", () => saveStrict(preview, read), { id: "table-save", disabled }),
   );

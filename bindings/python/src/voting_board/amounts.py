@@ -1,4 +1,4 @@
-"""What `votes,WHO,AMOUNT` means for a register: per cent, and votes of several members together, as whole votes."""
+"""Amounts of votes in a study: per cent, and votes of several members together, as whole votes."""
 from __future__ import annotations
 
 import re
@@ -6,7 +6,7 @@ from collections.abc import Mapping, Sequence
 from dataclasses import dataclass
 from fractions import Fraction
 
-from .names import KINDS, MEMBER_VOTES, Kind
+from .names import MEMBER_VOTES, NO_PROPORTIONS, Kind
 from .results import Command, Member
 
 DECIMAL = r"[0-9]{1,9}(?:\.[0-9]{1,9})?"
@@ -35,18 +35,8 @@ class Percent:
     sign: str
     number: str
 
-    def votes(self, members: Members, codes: Sequence[str]) -> int:
-        """The votes of some members together, rounded once, half to even."""
-        own, number = votes_of(members, codes), Fraction(self.number)
-        if self.sign:
-            return round(own * (1 + (number if self.sign == "+" else -number) / 100))
-        for code in codes:
-            if members[code].suspended:
-                raise BadStudy(f"{code} is suspended, so it has no share of the total voting power")
-        rest = total_of(members) - own
-        if number >= 100 or rest == 0:
-            raise BadStudy(f"no number of votes is {self.number} per cent of the total voting power")
-        return round(number / (100 - number) * rest)
+    def __str__(self) -> str:
+        return self.sign + self.number
 
 
 def total_of(members: Members) -> int:
@@ -89,6 +79,11 @@ def codes_of(members: Members, who: str) -> list[str]:
     return codes
 
 
+def has_proportions(members: Members, codes: Sequence[str]) -> bool:
+    """Whether votes can be shared out among members: one alone gets all, but several need votes for proportions."""
+    return len(codes) == 1 or votes_of(members, codes) > 0
+
+
 def shared_out(votes: int, weights: Mapping[str, int]) -> dict[str, int]:
     """Whole votes for members in the proportions of their weights.
 
@@ -106,41 +101,14 @@ def shared_out(votes: int, weights: Mapping[str, int]) -> dict[str, int]:
 
 def records_for(members: Members, codes: Sequence[str], votes: int) -> list[str]:
     """The records that give some members votes together, in the proportions of their present votes."""
-    if len(codes) == 1 or votes < 0:
-        parts = {codes[0]: votes}
-    elif votes_of(members, codes):
-        parts = shared_out(votes, {code: members[code].votes for code in codes})
-    else:
-        raise BadStudy("these members have no votes, so no proportions to keep")
+    if not has_proportions(members, codes):
+        raise BadStudy(NO_PROPORTIONS)
+    whole = len(codes) == 1 or votes < 0
+    parts = {codes[0]: votes} if whole else shared_out(votes, {code: members[code].votes for code in codes})
     for code, part in parts.items():
         if not 0 <= part <= MEMBER_VOTES:
             raise BadStudy(f"{code} would have {part} votes, and votes are from 0 to 2^40")
     return [f"votes,{code},{part}" for code, part in parts.items()]
-
-
-def plain_command(text: str) -> str:
-    """A command of a scenario without blanks around its fields."""
-    command = ",".join(" ".join(part.split()) for part in text.split(","))
-    kind, *fields = command.split(",")
-    if kind not in KINDS or '"' in command:
-        raise BadStudy(f"{text.strip()[:60]!r} is no command of a scenario: these are {', '.join(KINDS)}")
-    if kind == "votes" and len(fields) == 2:
-        percent_of(fields[1])
-    return command
-
-
-def records_of(members: Members, command: str) -> list[str]:
-    """The records of a command: per cent as a number of votes, and a record for each member of a group."""
-    kind, *fields = command.split(",")
-    if kind != "votes" or len(fields) != 2:
-        return [command]
-    who, amount = fields
-    percent = percent_of(amount)
-    is_number = amount.isascii() and amount.isdecimal() and len(amount) <= 20
-    if percent is None and not (GROUP.fullmatch(who) and is_number):
-        return [command]
-    codes = codes_of(members, who)
-    return records_for(members, codes, percent.votes(members, codes) if percent else int(amount))
 
 
 def undone(members: Members, done: Command) -> list[Command]:

@@ -13,7 +13,7 @@ if TYPE_CHECKING:
     from .studies import Result, Swept, Threshold
 
 #: The measures that a study compares, as they are named in a sentence.
-NAMES = {name: words for name, words in MEASURES.items() if name != "swings"}
+NAMES = {name: words for name, words in MEASURES.items() if name not in ("swings", "ratio")}
 PLACES, PERCENT_PLACES = 6, 3
 #: The chairs that a sentence names at most; the others are counted.
 MOST_NAMED = 3

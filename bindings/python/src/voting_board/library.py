@@ -8,7 +8,7 @@ from collections.abc import Callable
 from ctypes import c_char, c_size_t, c_uint8, c_uint32, c_uint64, c_void_p
 from functools import partial
 from pathlib import Path
-from typing import TYPE_CHECKING
+from typing import TYPE_CHECKING, Optional
 
 from .names import VERSION
 
@@ -20,7 +20,7 @@ NAMES = ("libboard.so", "libboard.dylib", "board.dll")
 SHEET_WORDS = 34
 #: A board_counts as words: seven numbers, then three for each of 32 chairs.
 COUNT_WORDS, FIRST_ROW, ROW_WORDS = 103, 7, 3
-ROOM_WORDS = 163_840
+ROOM_WORDS = 131_072
 
 #: The file that says that the package's own library needs such a processor, and what Linux calls its parts.
 LEVEL = "x86-64-v2"
@@ -77,6 +77,7 @@ CALLS: dict[str, list[type]] = {
     "register_sheet": [PLACE, PLACE],
     "register_read": [PLACE, NUMBER, PLACE, PLACE],
     "register_copy": [PLACE, NUMBER, PLACE],
+    "register_undo": [PLACE, NUMBER, NUMBER],
     "register_free": [PLACE],
     "script": [*INPUT, PLACE, SIZE, PLACE, PLACE, SIZE, PLACE, PLACE],
     "replay": [*INPUT, NUMBER, PLACE, SIZE, PLACE, PLACE],
@@ -158,12 +159,30 @@ class Handle:
 
     `__del__` is a call of the library, not a function of Python, in which an interrupt would be lost."""
 
-    __slots__ = ("words", "names", "is_usable", "__del__")
+    __slots__ = ("words", "names", "is_usable", "before", "__del__")
 
     def __init__(self, names: ChairNames) -> None:
         self.is_usable, self.names = True, names
+        #: Where the register goes back to before its next use, if something was left in the middle: the numbers of
+        #: accepted and published commands.
+        self.before: Optional[tuple[int, int]] = None
         self.words = (c_uint64 * 2)()
         self.__del__: Callable[[], object] = partial(short.board_register_free, self.words)
+
+    def begin(self) -> None:
+        """Begins what is done as a whole or not at all: it is undone before the next use, unless `before` is None."""
+        words = self.words
+        self.before = short.board_register_accepted(words), short.board_register_published(words)
+
+    def take_back(self) -> None:
+        """Goes back to `before`. An interrupt leaves it to be done again."""
+        if self.before is not None:
+            accepted, published = self.before
+            now = short.board_register_accepted(self.words), short.board_register_published(self.words)
+            if now != self.before:
+                long.board_register_undo(self.words, accepted, published)
+                self.names = self.names.first(accepted)
+            self.before = None
 
     def give_up(self) -> None:
         """Leaves a register as it is after the library has come to what its proof rules out: it can't even be freed."""

@@ -163,6 +163,7 @@ MEASURES: dict[str, str] = {
     "prevent": "power to prevent action",
     "initiate": "power to initiate action",
     "swings": "number of swings",
+    "ratio": "ratio of power to votes",
 }
 
 #: The sentences on who has most and who gains most.
@@ -184,3 +185,14 @@ FINDINGS: dict[str, str] = {
     "tiny": "less than {change}",
     "points": "{change} percentage points",
 }
+
+#: The operations of scenarios: what each field is, in the order of the text.
+OPERATIONS: dict[str, dict[str, str]] = {
+    "merge": {"chair": "chair", "to": "chair"},
+    "dissolve": {"chair": "chair", "to": "seat"},
+    "split": {"codes": "codes", "to": "opened"},
+    "scale": {"of": "whose", "percent": "change"},
+    "share": {"codes": "codes", "percent": "share", "others": "others"},
+    "move": {"codes": "codes", "to": "seat"},
+}
+NO_PROPORTIONS = "these members have no votes, so no proportions to keep"

@@ -260,6 +260,9 @@ class Register:
             raise RuntimeError("another thread is using this register")
         if not self._handle.is_usable:
             raise RuntimeError(LOST)
+        if self._handle.before is not None:
+            with self._lock:
+                self._handle.take_back()
         return self._lock
 
     def _run(self, kind: Kind, code: object = None, chair: object = None, votes: object = None) -> int:
@@ -275,11 +278,11 @@ class Register:
             return self._run("open", chair=chair)
         words = words_of("open", chair=chair)
         with self._used():
-            # On a copy, so that an interrupt leaves no chair that has lost its name.
-            copy = copied(self._handle, COMMANDS)
-            accepted = run(copy, words)
-            copy.names = copy.names.given(accepted, given)
-            self._handle = copy
+            handle = self._handle
+            handle.begin()
+            accepted = run(handle, words)
+            handle.names = handle.names.given(accepted, given)
+            handle.before = None
         return accepted
 
     def rename(self, chair: Whole, name: Optional[str]) -> None:
@@ -347,14 +350,13 @@ class Register:
         with self._used():
             rest = pieces(text, PREFIX, READERS)
             first = next(rest)
-            if first.is_one:
-                run_piece(self._handle, first, text, reads=False)
-            else:
-                copy = copied(self._handle, COMMANDS)
-                for piece in chain([first], rest):
-                    run_piece(copy, piece, text, reads=False)
-                self._handle = copy
-            return int(short.board_register_accepted(self._handle.words))
+            handle = self._handle
+            if not first.is_one:
+                handle.begin()
+            for piece in chain([first], rest):
+                run_piece(handle, piece, text, reads=False)
+            handle.before = None
+            return int(short.board_register_accepted(handle.words))
 
     def attempt(self, commands: Commands) -> Optional[Refused]:
         """Does what `submit` does, but returns the refusal in place of raising it, and None if there is none."""
@@ -400,7 +402,8 @@ class Register:
             accepted = short.board_register_accepted(self._handle.words)
             length = accepted - 1 if to is None else to
             found = whole(length, "the length is", ALLOWED["length"], BAD_INDEX, 0, accepted)
-            self._handle = copied(self._handle, found)
+            self._handle.before = found, found
+            self._handle.take_back()
         return found
 
     @property

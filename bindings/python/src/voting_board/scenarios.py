@@ -11,7 +11,8 @@ from importlib import import_module
 from pathlib import Path
 from typing import Any, TypeVar, Union
 
-from .amounts import CODE, DECIMAL, BadStudy, plain_command
+from .amounts import CODE, DECIMAL, BadStudy
+from .operations import plain_command
 from .results import Command
 
 BASE = "base"

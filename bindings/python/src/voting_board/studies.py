@@ -20,9 +20,10 @@ from pathlib import Path
 from typing import TYPE_CHECKING, Optional, Union
 
 from . import answers
-from .amounts import BadStudy, Members, codes_of, plain_command, records_for, records_of, total_of, undone, votes_of
+from .amounts import BadStudy, Members, codes_of, records_for, total_of, undone, votes_of
 from .many import all_processors, in_threads
 from .names import MAJORITIES, Majority
+from .operations import operation_of, plain_command, records_of
 from .refusals import Refused
 from .registers import Register
 from .replays import replay_text
@@ -34,9 +35,6 @@ from .values import number_of
 
 if TYPE_CHECKING:
     from pandas import DataFrame  # type: ignore[import]
-
-#: What a study begins with: a strict table, its path, a table of the package, or a register.
-Given = Union[Register, StrictTable, Path, Table]
 
 
 @dataclass(frozen=True)
@@ -59,8 +57,14 @@ class Base:
     notices: tuple[str, ...] = ()
 
 
+#: What a study begins with: a strict table, its path, a table of the package, a register, or a base.
+Given = Union[Register, StrictTable, Path, Table, Base]
+
+
 def base_of(given: Given) -> Base:
     """The base of what is given."""
+    if isinstance(given, Base):
+        return given
     if isinstance(given, Register):
         return Base(given.copy())
     table = read_table(given) if isinstance(given, Path) else given
@@ -73,8 +77,13 @@ def base_of(given: Given) -> Base:
     return Base(Register(columns), {code: str(name) for code, name in pairs if not is_missing(name)})
 
 
-#: Commands of a scenario, each with the register's commands for it.
-Taken = tuple[tuple[str, tuple[Command, ...]], ...]
+@dataclass(frozen=True)
+class Taken:
+    """A command of a scenario, the register's commands for it, and its operation in the page's format if it is one."""
+
+    command: str
+    done: tuple[Command, ...]
+    operation: Optional[dict[str, object]] = None
 
 
 @dataclass(frozen=True)
@@ -94,7 +103,7 @@ class Result:
     label: str
     indices: dict[Majority, Indices]
     names: dict[int, str]
-    taken: Taken = ()
+    taken: tuple[Taken, ...] = ()
     back: tuple[Command, ...] = field(default=(), repr=False)
     base: Optional[Result] = field(default=None, repr=False)
     sweep: str = ""
@@ -104,7 +113,7 @@ class Result:
     @cached_property
     def commands(self) -> tuple[Command, ...]:
         """The register's commands that lead there from the base."""
-        return tuple(it for _, commands in self.taken for it in commands)
+        return tuple(it for taken in self.taken for it in taken.done)
 
     @cached_property
     def opened(self) -> frozenset[int]:
@@ -282,7 +291,7 @@ class Moved:
     """A register after commands of scenarios: the register, what it carried out for each, and what leads back."""
 
     register: Register
-    taken: Taken = ()
+    taken: tuple[Taken, ...] = ()
     back: tuple[Command, ...] = ()
 
     @cached_property
@@ -296,14 +305,16 @@ class Moved:
             members = register.members if number else members
             accepted = register.accepted
             try:
-                for record in records_of(members, command):
+                operation = operation_of(command)
+                data = operation.data(members) if operation else None
+                for record in records_of(members, command, register.chairs):
                     register.submit(record)
             except Refused as why:
                 raise BadStudy(str(why)) from None
             except BadStudy as why:
                 raise BadStudy(f"{command!r}: {why}") from None
             done = register.journal[accepted:]
-            taken.append((command, done))
+            taken.append(Taken(command, done, data))
             back = [*(it for one in reversed(done) for it in undone(members, one)), *back]
         return Moved(register, tuple(taken), tuple(back))
 
@@ -459,7 +470,7 @@ def study(
     at: the majorities
     scenarios: a mapping from labels to commands, or texts "LABEL: command; command". `votes,XAB,+30%` changes votes by
         30 per cent, `votes,XAB,15% of total` gives 15 per cent of the total voting power; `XAB+XAC` and `chair 17` are
-        several members together, in their proportions
+        several members, and `merge`, `dissolve`, `split`, `scale`, `share` and `move` are the page's operations
     sweeps: texts "XAA 10..20 by 0.5 %"; "from LABEL: .." starts from a scenario's register
 
     Raises `BadStudy`, with a line for each scenario or sweep that is wrong or refused; `BadTable` for a table.

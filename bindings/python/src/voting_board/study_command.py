@@ -11,8 +11,9 @@ from .command_line import PAGE, TABLE, add_figure_words, check_names, command_wo
 from .command_line import majorities, out_name, printable, read_bytes, say
 from .files import check_same, place_of, write_files
 from .names import MAJORITIES, VERSION
+from .saved_studies import Saved, is_saved, read_saved
 from .scenarios import BASE, each, scenario_of, scenarios_in, sweep_of
-from .strict import ENCODINGS, StrictTable, read_table
+from .strict import ENCODINGS, read_table
 from .study_files import file_line, page_data, page_with, provenance, study_table, sweep_in_page
 
 SCRIPT = "member,votes\n"
@@ -25,13 +26,22 @@ EPILOG = """For example:
 TABLE is a strict table: CSV with the columns code (or name), votes, chair, and if there chair_name and suspended, in
 whole numbers. board.html cleans any other one and saves it as such a table.
 
+TABLE may also be a study that board.html saved (.study.json, or a page), with its changes and scenarios.
+
 A scenario is a label, a colon, and commands separated by semicolons (open, close, move, votes, suspend, restore, admit,
 withdraw, as docs/FORMATS.md has them), carried out on the register of the table. --scenarios takes a file of them: CSV
 with the columns label and commands, or TOML, where the name ends in .toml, with a table [[scenario]] for each.
 
 Votes are a number, or per cent: votes,CHN,+30% changes the member's own votes, and votes,USA,15% of total gives 15 per
-cent of the total voting power. Several codes joined by +, or a chair such as 'chair 17', may take a code's place. They
-get the votes together, in their proportions. Votes are rounded once to whole votes, half to even.
+cent of the total voting power. Several codes joined by +, or a chair such as 'chair 17', may take a code's place.
+
+The operations of board.html are commands, too, each of them as a whole:
+  merge,17,18  dissolve,17,18  dissolve,17      all members of a chair move to another or to none, and it is closed
+  split,CHN+IND  split,CHN+IND,25               members move to a chair that is opened for them
+  move,CHN+IND,17  move,CHN+IND                 members move to a chair, or to none
+  scale,CHN+IND,+10%  scale,chair 17,+10%       the votes of each member, rounded to whole votes, half to even
+  share,CHN+IND,20%,pay                         they get a share of the total; the others pay in proportion, or with
+  share,CHN+IND,+6 points,keep                  keep keep their votes
 
 A sweep gives such votes one share of the total after the other: 'USA 10..20 by 0.5 %', 'chair 17 1..30 by 1 %'. It
 starts from the table's register; 'from LABEL: USA 10..20 by 1 %' from that of a scenario.
@@ -70,20 +80,26 @@ def words() -> argparse.ArgumentParser:
     return parser
 
 
-def said_of(table: StrictTable) -> list[str]:
+def said_of(base: studies.Base) -> list[str]:
     """Sentences on what was read: members, votes and chairs, then each notice."""
-    none = [f"{it.code} ({counted(it.votes, 'vote')})" for it in table.members if it.chair is None]
+    members = base.register.members
+    named = {code: f"{code} {name}" if (name := base.members.get(code)) else code for code in members}
+    none = [f"{named[code]} ({counted(it.votes, 'vote')})" for code, it in members.items() if it.chair is None]
     more = f" and {len(none) - MOST_NAMED} more" if none[MOST_NAMED:] else ""
     seats = f"{counted(len(none), 'member')} in no chair: {', '.join(none[:MOST_NAMED])}{more}"
-    members = f"{counted(len(table.members), 'member')}, {counted(sum(it.votes for it in table.members), 'vote')}"
-    chairs = counted(len({it.chair for it in table.members if it.chair}), "chair")
-    return [f"{members}; {chairs}; {seats if none else 'every member is in a chair'}", *table.notices]
+    many = f"{counted(len(members), 'member')}, {counted(sum(it.votes for it in members.values()), 'vote')}"
+    chairs = counted(len({it.chair for it in members.values() if it.chair}), "chair")
+    return [f"{many}; {chairs}; {seats if none else 'every member is in a chair'}", *base.notices]
 
 
-def table_in(given: argparse.Namespace, data: bytes) -> StrictTable:
-    """The table of members."""
+def begun(given: argparse.Namespace, data: bytes) -> Saved:
+    """The study with which this one begins: a table of members without scenarios, or a study that board.html saved."""
+    name = "Table" if given.table == "-" else Path(given.table).stem
     try:
-        return read_table(data, encoding=given.encoding, header_row=given.header_row, total=given.total)
+        if is_saved(data):
+            return read_saved(data, total=given.total)
+        table = read_table(data, encoding=given.encoding, header_row=given.header_row, total=given.total)
+        return Saved(name, studies.base_of(table), (), (), given.total)
     except ValueError as why:
         raise ValueError("\n".join(f"{given.table}: {it}" for it in str(why).splitlines())) from None
 
@@ -111,23 +127,25 @@ def make(given: argparse.Namespace) -> None:
     """Runs the study, writes its files, and says the answers."""
     places_of(given, {})
     data, files = read_bytes(given.table), [(it, read_bytes(it)) for it in given.scenarios]
-    table = table_in(given, data)
-    say("board-study", said_of(table))
-    asked = [it for many in each(lambda it: scenarios_in(*it), files) for it in many]
+    start = begun(given, data)
+    said = said_of(start.base)
+    say("board-study", said)
+    asked = [*start.scenarios]
+    asked += [it for many in each(lambda it: scenarios_in(*it), files) for it in many]
     asked += each(scenario_of, given.scenario)
-    study = studies.study(table, at=given.at, scenarios=asked, sweeps=each(sweep_of, given.sweep))
+    sweeps = [*start.sweeps, *each(sweep_of, given.sweep)]
+    study = studies.study(start.base, at=given.at, scenarios=asked, sweeps=sweeps)
     read = [file_line("table", given.table, data), *(file_line("scenarios", *it) for it in files)]
     paths = [given.table, given.out, given.replay, given.figures, *given.scenarios]
-    more = [command_words("board-study", sys.argv[1:], paths), *(f"read: {it}" for it in said_of(table))]
+    more = [command_words("board-study", sys.argv[1:], paths), *(f"read: {it}" for it in said)]
     lines = provenance(study, read, more)
-    name = given.title or ("Table" if given.table == "-" else Path(given.table).stem)
     figures: dict[Path, bytes] = {}
     if given.figures:
         from .figures import figure_files, study_figures
 
-        start = given.figures / Path(given.out).name
-        figures = figure_files(study_figures(study, given.measure), start, given.figure_titles == "in", lines)
-    page = page_with(page_data(study, name, lines, given.measure, given.total))
+        place = given.figures / Path(given.out).name
+        figures = figure_files(study_figures(study, given.measure), place, given.figure_titles == "in", lines)
+    page = page_with(page_data(study, given.title or start.name, lines, given.measure, start.published))
     texts = [study_table(study, lines), page, *([study.script()] if given.replay else [])]
     answers = printable("\n".join(sentences(study, given)))
     if given.replay and not given.force:

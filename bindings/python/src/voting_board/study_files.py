@@ -10,7 +10,7 @@ from math import gcd
 from pathlib import Path
 from typing import Optional
 
-from .amounts import CODE, percent_of
+from .amounts import percent_of
 from .answers import decimal
 from .files import csv_text
 from .library import path_of
@@ -100,16 +100,18 @@ def command_data(done: Command) -> dict[str, object]:
 
 
 def changes_of(result: Result, first: int) -> list[dict[str, object]]:
-    """The changes of a scenario in the page's format: per cent stay per cent, and several members get numbers."""
+    """The changes of a scenario in the page's format: per cent stay per cent, and operations are operations."""
     found = list[dict[str, object]]()
-    for command, carried_out in result.taken:
-        _, who, amount = [*command.split(","), "", ""][:3]
-        percent = percent_of(amount)
-        if percent and re.fullmatch(CODE, who):
+    for taken in result.taken:
+        kind, who, amount = [*taken.command.split(","), "", ""][:3]
+        percent = percent_of(amount) if kind == "votes" else None
+        if taken.operation:
+            found.append(taken.operation)
+        elif percent:
             of = "own" if percent.sign else "total"
-            found.append({"kind": "percent", "of": of, "code": who, "percent": percent.sign + percent.number})
+            found.append({"kind": "percent", "of": of, "code": who, "percent": str(percent)})
         else:
-            found += map(command_data, carried_out)
+            found += map(command_data, taken.done)
     return [{"id": first + at, "on": True, "what": what} for at, what in enumerate(found)]
 
 

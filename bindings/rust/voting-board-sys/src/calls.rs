@@ -53,38 +53,38 @@ extern "C" {
     pub fn board_register_apply(handle: *mut board_register, command: *const board_command, accepted: *mut u32) -> u8;
 
     /// The result that [`board_register_apply`] would return. Carries out nothing.
-    pub fn board_register_check(handle: *mut board_register, command: *const board_command) -> u8;
+    pub fn board_register_check(handle: *const board_register, command: *const board_command) -> u8;
 
     /// Publishes all accepted commands.
     pub fn board_register_publish(handle: *mut board_register, published: *mut u32) -> u8;
 
     /// The number of accepted commands.
-    pub fn board_register_accepted(handle: *mut board_register) -> u32;
+    pub fn board_register_accepted(handle: *const board_register) -> u32;
 
     /// The number of published commands.
-    pub fn board_register_published(handle: *mut board_register) -> u32;
+    pub fn board_register_published(handle: *const board_register) -> u32;
 
     /// The number of members.
-    pub fn board_register_members(handle: *mut board_register) -> usize;
+    pub fn board_register_members(handle: *const board_register) -> usize;
 
     /// The number of members with which the register started.
-    pub fn board_register_entries(handle: *mut board_register) -> usize;
+    pub fn board_register_entries(handle: *const board_register) -> usize;
 
     /// The member at an index, in the order of entry.
-    pub fn board_register_member_at(handle: *mut board_register, index: usize, row: *mut board_member_row) -> u8;
+    pub fn board_register_member_at(handle: *const board_register, index: usize, row: *mut board_member_row) -> u8;
 
     /// The member at an index of those with which the register started.
-    pub fn board_register_entry_at(handle: *mut board_register, index: usize, entry: *mut board_entry) -> u8;
+    pub fn board_register_entry_at(handle: *const board_register, index: usize, entry: *mut board_entry) -> u8;
 
     /// The accepted command at an index.
-    pub fn board_register_command_at(handle: *mut board_register, index: usize, command: *mut board_command) -> u8;
+    pub fn board_register_command_at(handle: *const board_register, index: usize, command: *mut board_command) -> u8;
 
     /// Writes the 34 words of the register's sheet.
-    pub fn board_register_sheet(handle: *mut board_register, words: *mut u64) -> u8;
+    pub fn board_register_sheet(handle: *const board_register, words: *mut u64) -> u8;
 
     /// The counts of the register's sheet by a majority.
     pub fn board_register_counts(
-        handle: *mut board_register,
+        handle: *const board_register,
         majority: u32,
         room: *mut board_room,
         counts: *mut board_counts,
@@ -92,21 +92,25 @@ extern "C" {
 
     /// The counts of the register's sheet by each majority.
     pub fn board_register_all_counts(
-        handle: *mut board_register,
+        handle: *const board_register,
         room: *mut board_room,
         counts: *mut board_all_counts,
     ) -> u8;
 
     /// The counts of the sheet after the published commands.
     pub fn board_register_read(
-        handle: *mut board_register,
+        handle: *const board_register,
         majority: u32,
         room: *mut board_room,
         counts: *mut board_counts,
     ) -> u8;
 
     /// Puts a copy of the register as it was after its first `accepted` commands into another handle.
-    pub fn board_register_copy(handle: *mut board_register, accepted: u32, copy: *mut board_register) -> u8;
+    pub fn board_register_copy(handle: *const board_register, accepted: u32, copy: *mut board_register) -> u8;
+
+    /// Takes the register back, in place, to what it was after its first `accepted` commands, of which no more than the
+    /// first `published` stay published.
+    pub fn board_register_undo(handle: *mut board_register, accepted: u32, published: u32) -> u8;
 
     /// Frees the register of a handle.
     pub fn board_register_free(handle: *mut board_register);
@@ -174,4 +178,16 @@ extern "C" {
 
     /// The name of a refusal or a fault by its number, or "".
     pub fn board_refusal_name(number: u32) -> c_string;
+
+    /// The name of a majority by its number, or "".
+    pub fn board_majority_name(majority: u32) -> c_string;
+
+    /// The number of the majority with this name, or BOARD_MAJORITIES.
+    pub fn board_majority_number(name: c_string) -> u32;
+
+    /// Writes a command as a record of a script, and a 0, to BOARD_COMMAND_TEXT bytes.
+    pub fn board_command_text(command: *const board_command, text: *mut u8) -> usize;
+
+    /// Writes the beginning of a register as a script, and returns the length of the whole script.
+    pub fn board_register_text(handle: *const board_register, out: *mut u8, out_len: usize) -> usize;
 }

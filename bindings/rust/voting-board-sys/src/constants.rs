@@ -14,6 +14,10 @@ pub const BOARD_INPUT_BYTES: usize = 4_194_304;
 pub const BOARD_SHEET_WORDS: usize = 34;
 /// `BOARD_ROOM_SETS` of board.h.
 pub const BOARD_ROOM_SETS: usize = 65_536;
+/// `BOARD_MAJORITIES` of board.h.
+pub const BOARD_MAJORITIES: usize = 4;
+/// `BOARD_COMMAND_TEXT` of board.h.
+pub const BOARD_COMMAND_TEXT: usize = 32;
 /// `BOARD_ALIGNMENT` of board.h.
 pub const BOARD_ALIGNMENT: usize = 8;
 /// `BOARD_CHAIR_BYTES` of board.h.
@@ -25,7 +29,7 @@ pub const BOARD_ALL_COUNTS_BYTES: usize = 3_296;
 /// `BOARD_MEMBER_BYTES` of board.h.
 pub const BOARD_MEMBER_BYTES: usize = 24;
 /// `BOARD_ROOM_BYTES` of board.h.
-pub const BOARD_ROOM_BYTES: usize = 1_310_720;
+pub const BOARD_ROOM_BYTES: usize = 1_048_576;
 /// `BOARD_REGISTER_BYTES` of board.h.
 pub const BOARD_REGISTER_BYTES: usize = 16;
 /// `BOARD_ENTRY_BYTES` of board.h.

@@ -89,7 +89,7 @@ pub struct board_member {
     pub suspended: u64,
 }
 
-/// Memory for the lists of a call, with any content. It is 1.25 MiB, so it belongs on the heap.
+/// Memory for the lists of a call, with any content. It is 1 MiB, so it belongs on the heap.
 #[repr(C, align(8))]
 pub struct board_room {
     words: [u64; BOARD_ROOM_BYTES / 8],

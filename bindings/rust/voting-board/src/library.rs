@@ -222,6 +222,11 @@ impl Handle {
         Ok(copy)
     }
 
+    /// Takes the register back to its first commands, of which no more than these are published. It needs no memory.
+    pub(crate) fn undo(&mut self, accepted: u32, published: u32) -> Result<(), Refusal> {
+        self.call(|it| unsafe { sys::board_register_undo(it, accepted, published) })
+    }
+
     pub(crate) fn apply(&mut self, command: &board_command) -> Result<u32, Refusal> {
         let mut accepted = 0;
         self.call(|it| unsafe { sys::board_register_apply(it, command, &mut accepted) })?;

@@ -308,7 +308,7 @@ impl Register {
     /// The refusal has the number of the record and its text.
     ///
     /// A record that isn't well formed, and a `read`, are refused as [`Refusal::BadRecord`]. Where memory runs out,
-    /// [`Refusal::OutOfMemory`] refuses all records. Two or more are carried out on a copy.
+    /// [`Refusal::OutOfMemory`] refuses all records.
     ///
     /// ```
     /// use voting_board::Register;
@@ -341,8 +341,7 @@ impl Register {
     /// published stay published: if more than `accepted` were, all that are left are published, and
     /// [`read`](Self::read) counts the register after them.
     ///
-    /// More commands than were accepted are refused as [`Refusal::BadIndex`]. Where memory runs out,
-    /// [`Refusal::OutOfMemory`] refuses it, and the register stays as it is.
+    /// More commands than were accepted are refused as [`Refusal::BadIndex`]. It needs no memory.
     ///
     /// ```
     /// use voting_board::Register;
@@ -358,7 +357,7 @@ impl Register {
             let message = format!("the length is {accepted}: {}", crate::names::allowed::LENGTH);
             return Err(Refused::new(Refusal::BadIndex, message));
         }
-        self.handle = self.handle.copy(accepted)?;
+        self.handle.undo(accepted, accepted)?;
         self.names.undo_to(accepted);
         Ok(accepted)
     }
@@ -387,21 +386,15 @@ impl Register {
         })
     }
 
-    /// Carries out all records; or none, if one is refused or a fault follows them. More than one are carried out on a
-    /// copy, which then takes the register's place, so no memory is needed where the register stays as it is.
+    /// Carries out all records; or none, if one is refused or a fault follows them. The register is then taken back,
+    /// which needs no memory.
     fn carry_out_all(&mut self, records: &[Record], fault: Option<Refused>) -> Result<u32, Refused> {
-        if let ([] | [_], None) = (records, &fault) {
-            records.first().map_or(Ok(0), |it| self.carry_out(it))?;
-            return Ok(self.accepted());
-        }
-        let copy = self.handle.copy(u32::MAX)?;
-        let before = std::mem::replace(&mut self.handle, copy);
+        let (accepted, published) = (self.accepted(), self.published());
         let result = records.iter().try_for_each(|it| self.carry_out(it).map(|_| ())).and(fault.map_or(Ok(()), Err));
-        if let Err(why) = result {
-            self.handle = before;
-            return Err(why);
+        if result.is_err() && (accepted, published) != (self.accepted(), self.published()) {
+            self.handle.undo(accepted, published)?;
         }
-        Ok(self.accepted())
+        result.map(|()| self.accepted())
     }
 }
 

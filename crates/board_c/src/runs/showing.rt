@@ -2,7 +2,7 @@
 ghost use Rattle.std.specs.Prelude.{◌≡◌, ◌≢◌, ◌≤◌, true, length, take, drop, min};
 ghost use Rattle.board_c.specs.Kinds.{run_as};
 ghost use Rattle.board_c.specs.declared.TheConstants.{DONE};
-ghost use Rattle.board_c.specs.Shown.{IsLonger, IsWhole, Shows, end_in};
+ghost use Rattle.board_c.specs.Shown.{IsLonger, IsWhole, ShowsRun, end_in};
 ghost use Rattle.board_c.specs.Ends.{answer_of, record_of};
 ghost use Rattle.board_text.specs.Text.{Run, run_limits};
 ghost use Rattle.council_core.specs.Refusals.{code_of};
@@ -75,7 +75,7 @@ pub(crate) fn is_of_device(fault: Fault) -> bool
 
 // Copies the line of the fault OutOfMemory to `out`.
 fn show_lack_of_memory(out: &mut [u8]) -> Shown
-    ensures shows { (run : Run) → Shows run (length out.old) (take result.count out.new)
+    ensures shows { (run : Run) → ShowsRun run (length out.old) (take result.count out.new)
         (answer_of result.end) (record_of result.end) }
     ensures within { result.count ≤ length out.old }
     ensures rest { drop result.count out.new ≡ drop result.count out.old }
@@ -88,7 +88,7 @@ fn show_lack_of_memory(out: &mut [u8]) -> Shown
 
 // Runs an input into memory, and copies its text to `out`.
 fn run_into(alloc: Global, kind: Kind, input: &[u8], limits: Limits, out: &mut [u8]) -> Shown
-    ensures shows { Shows (run_as kind limits input.now) (length out.old) (take result.count out.new)
+    ensures shows { ShowsRun (run_as kind limits input.now) (length out.old) (take result.count out.new)
         (answer_of result.end) (record_of result.end) }
     ensures within { result.count ≤ length out.old }
     ensures rest { drop result.count out.new ≡ drop result.count out.old }
@@ -111,7 +111,7 @@ pub(crate) fn show_run(
     journal: u32,
     out: &mut [u8],
 ) -> Shown
-    ensures shows { Shows (run_as kind (run_limits readers journal) input.now) (length out.old)
+    ensures shows { ShowsRun (run_as kind (run_limits readers journal) input.now) (length out.old)
         (take result.count out.new) (answer_of result.end) (record_of result.end) }
     ensures within { result.count ≤ length out.old }
     ensures rest { drop result.count out.new ≡ drop result.count out.old }

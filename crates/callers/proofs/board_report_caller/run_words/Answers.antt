@@ -1,5 +1,6 @@
 use Rattle.std.specs.Prelude.{◌≡◌, ℕ, List, [], Some}
 use Rattle.std.proofs.Common.{subst, inl}
+use Rattle.std.specs.Process.{exit_status}
 use Rattle.board_report.specs.declared.calls.Invocation.{Invocation}
 use Rattle.board_report.specs.Programs.{CallExits, written_streams}
 use Rattle.callers.proofs.board_report_caller.run_words.Goals as goal
@@ -14,10 +15,10 @@ from-empty call input status out err says names no_out no_err exits =
 
 pub returns : goal.returns
 returns g c =
-    let streams = c.program-status.new.streams in
+    let now = c.process-code.new in
     record {
-      calls = λ call asks. from-empty call c.args.input.now c.program-status.result
-          c.new-2.result.items c.new-3.result.items streams.out.items streams.err.items
-          c.new-2.ensures.items c.new-3.ensures.items
-          (c.program-status.ensures.calls call asks c.args.input.now (inl c.new.ensures.left));
+      calls = λ call asks. from-empty call c.args.input.now (exit_status c.process-code.result)
+          c.new-out.result.items c.new-err.result.items now.out.items now.err.items
+          c.new-out.ensures.items c.new-err.ensures.items
+          (c.process-code.ensures.calls call asks c.args.input.now (inl c.new-reader.ensures.left));
     }

@@ -21,12 +21,7 @@ list_subsets-requires-clause-small c =
     let same : c.as_slice.result.now ≡ chairs_from_slot 0 c.args.weights.now = cc in
     subst (λ (l : List Chair). weight_of l ≤ 2 ^ 48) (sym same) (omega (arith, slotted_sum 0 c.args.weights.now, c.requires.small))
 
-pub list_subsets-requires-clause-sums_room : goal.list_subsets-requires-clause-sums_room
-list_subsets-requires-clause-sums_room c =
+pub list_subsets-requires-clause-room : goal.list_subsets-requires-clause-room
+list_subsets-requires-clause-room c =
     let same : c.as_slice.result.now ≡ chairs_from_slot 0 c.args.weights.now = cc in
-    rw same (sets_fit c.args.weights.now c.args.sums.now c.requires.bound c.requires.sums_room)
-
-pub list_subsets-requires-clause-masks_room : goal.list_subsets-requires-clause-masks_room
-list_subsets-requires-clause-masks_room c =
-    let same : c.as_slice.result.now ≡ chairs_from_slot 0 c.args.weights.now = cc in
-    rw same (sets_fit c.args.weights.now c.args.masks.now c.requires.bound c.requires.masks_room)
+    rw same (sets_fit c.args.weights.now c.args.words.now c.requires.bound c.requires.room)

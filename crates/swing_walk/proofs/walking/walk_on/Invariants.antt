@@ -6,7 +6,7 @@ abbrev pub invariant-loop-walked : goal.invariant-loop-walked
 invariant-loop-walked g l = record {
   front_passed : HasPassed l.walked l.from_front l.route.falling;
   back_passed : HasPassed l.walked l.from_back l.route.rising;
-  front : StandsAt (g.P.Partners.counts l.front.partners) l.route l.from_front l.front.tallies;
-  back : StandsAt (g.P.Partners.counts l.back.partners) (turned_route l.route) l.from_back l.back.tallies;
+  front : StandsAt (g.P.Partners.counts l.chains.front.partners) l.route l.from_front l.chains.front.tallies;
+  back : StandsAt (g.P.Partners.counts l.chains.back.partners) (turned_route l.route) l.from_back l.chains.back.tallies;
   steps : l.steps ≡ length l.route.rising + length l.route.falling;
 }

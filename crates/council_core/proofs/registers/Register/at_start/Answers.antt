@@ -1,4 +1,5 @@
 use Rattle.std.proofs.Common.{rules, List, [], sym, subst, arith}
+use Rattle.indexmap.specs.IndexMap.{spare}
 use Rattle.council_core.specs.declared.commands.Command.{Command}
 use Rattle.council_core.specs.Rolls.{Opening}
 use Rattle.council_core.proofs.MirrorLemmas.{Kept, IsBeside}
@@ -7,16 +8,20 @@ use Rattle.council_core.proofs.registers.Register.at_start.Goals as goal
 
 pub invariant_of-result : goal.invariant_of-result
 invariant_of-result c =
-    let begun : Kept = record { entries = c.in_ok-entered.entered.entries; totals = c.start.result } in
+    let entered = c.enter_all.new.members in
+    let begun : Kept = record { entries = entered.entries; spare = spare entered; totals = c.start.result } in
     let start : IsStart c.args.members.now c.args.journal_limit begun = record {
-      made = c.in_ok-entered.ensures.ok;
-      bound = omega arith;
+      beginning = record {
+        made = c.enter_all.ensures.entries;
+        bound = omega arith;
+        words = c.start.ensures.words;
+        counts = c.start.ensures.counts;
+        total = c.start.ensures.total;
+        votes = c.start.ensures.small;
+      };
+      room = c.enter_all.ensures.room;
       apart = search rules;
       small = omega arith;
-      words = c.start.ensures.words;
-      counts = c.start.ensures.counts;
-      total = c.start.ensures.total;
-      votes = c.start.ensures.small;
     } in
     let beside = IsKept-start c.args.members.now c.args.journal_limit begun start in
     let opened = subst (λ (o : Opening). IsBeside (record { opening = o; journal = []; limit = c.args.journal_limit }) begun) (sym c.in_ok-opening.ensures.ok) beside in

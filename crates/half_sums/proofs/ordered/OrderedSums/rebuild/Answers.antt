@@ -4,23 +4,14 @@ use Rattle.half_sums.specs.declared.groups.TheConstants.{SLOTS}
 use Rattle.half_sums.proofs.SubsetFacts.{chairs_within_slots, room_of}
 use Rattle.half_sums.proofs.ordered.OrderedSums.rebuild.Goals as goal
 
-pub overflow_shl-count : goal.overflow_shl-count
-overflow_shl-count c = omega (arith, chairs_within_slots _ c.requires.slots c.requires.distinct)
+pub overflow_shl-chairs : goal.overflow_shl-chairs
+overflow_shl-chairs c = omega (arith, chairs_within_slots _ c.requires.slots c.requires.distinct)
 
 pub set_length-requires : goal.set_length-requires
 set_length-requires c =
     let few : length c.args.chairs.now ≤ SLOTS = chairs_within_slots _ c.requires.slots c.requires.distinct in
-    record { room = omega (arith, one_shl (length c.args.chairs.now) 64 (omega (arith, few)), room_of c.args.chairs.now few, c.self.invariant.1) }
+    record { room = omega (arith, one_shl (length c.args.chairs.now) 64 (omega (arith, few)), room_of c.args.chairs.now few, c.self.invariant.0) }
 
-pub set_length-requires-2 : goal.set_length-requires-2
-set_length-requires-2 c =
-    let few : length c.args.chairs.now ≤ SLOTS = chairs_within_slots _ c.requires.slots c.requires.distinct in
-    record { room = omega (arith, one_shl (length c.args.chairs.now) 64 (omega (arith, few)), room_of c.args.chairs.now few, c.self.invariant.2) }
-
-pub list_subsets-requires-clause-sums_room : goal.list_subsets-requires-clause-sums_room
-list_subsets-requires-clause-sums_room c =
-    omega (arith, c.as_mut_slice-sums.ensures.len, c.set_length.ensures.count, one_shl (length c.args.chairs.now) 64 (omega (arith, chairs_within_slots _ c.requires.slots c.requires.distinct)))
-
-pub list_subsets-requires-clause-masks_room : goal.list_subsets-requires-clause-masks_room
-list_subsets-requires-clause-masks_room c =
-    omega (arith, c.as_mut_slice-masks.ensures.len, c.set_length-2.ensures.count, one_shl (length c.args.chairs.now) 64 (omega (arith, chairs_within_slots _ c.requires.slots c.requires.distinct)))
+pub fill-self-inside-requires-clause-room : goal.fill-self-inside-requires-clause-room
+fill-self-inside-requires-clause-room c =
+    omega (arith, c.as_mut_slice.ensures.len, c.set_length.ensures.count, one_shl (length c.args.chairs.now) 64 (omega (arith, chairs_within_slots _ c.requires.slots c.requires.distinct)))
