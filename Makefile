@@ -171,9 +171,14 @@ drawn: $O/proved  ## one list of mutations of one crate, drawn by the commit
 	$(call said,tools/edits.py --draw $(COMMIT) $(call tries,$(DRAWN),none))
 cases: $(PROGRAM)  ## worked examples, and the examples of the documents, on the program
 	$(call said,$(if $(KIT),tests/run tests/cases,tests/cases/run --c $(BOARD)))
+promises: $(PROGRAM) $(if $(KIT),$(modules))  ## what stays as it is until the version says otherwise
+	$(call said,tests/run tests/promises)
 independent: $(PROGRAM)  ## the program against a Python reader written from the documents alone
-	$(call said,tests/run tests/independent $(if $(KIT),,--inputs 600))
-definitions: $O/proved  ## the definition of a replay, computed by the prover, against the independent reader
+	$(call said,tests/run tests/independent $(if $(KIT),,--inputs 600 --c))
+# The library for C once more, as one over which another crate can be checked.
+$O/board_c.rlib: $$(call sources,$$(call whole,board_c)) | $O/proved
+	@$(call rattle,board_c,build $(filter-out --crate-type staticlib,$(call over,board_c)) $(checked) -o $@)
+definitions: $O/proved $(if $(DEEP),$O/board_c.rlib)  ## definitions, computed by the prover, against the reader
 	$(call said,tests/run tests/definitions)
 second: $(PROGRAM)  ## the definitions and their laws in Coq, and the program against what they compute
 	$(call said,tests/run tests/second -n 2)
@@ -216,10 +221,10 @@ from-text: $(CRATES:%=$O/deep/%.proved)  ## all proofs, the toolchain's too, fro
 # alone.
 FIRST    := docs lint style tools
 UNPROVED := page-tests r python rust javascript recipes tables page-units
-PROVED   := prove tried drawn definitions stress memory cases independent register script steps steps-tests
+PROVED   := prove tried drawn definitions stress memory cases promises independent register script steps steps-tests
 PROVED   += targets compilers
 DEEPER   := release-tests second
-CHECKS   := docs lint tables page-units cases independent
+CHECKS   := docs lint tables page-units cases promises independent
 .PHONY: $(FIRST) $(UNPROVED) $(PROVED) $(DEEPER) edits unproved proved
 unproved:
 	+@$(MAKE) --keep-going $(UNPROVED) KIT=

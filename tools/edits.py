@@ -9,9 +9,9 @@
 
 FOLDER is the crate's folder, KEPT holds the kept work of a check of it, or is none, and COMMAND runs such a check.
 Prints for each mutation whether the prover rejects it, and last 'N passed, M failed'. A record has a hash of the
-crate's code, definitions, proofs and mutations, not of the crates below it. A mutation that is no longer rejected makes
-a test weaker, and no claim false, so the gate believes the record. (rt must-fail takes any file but *.md for a
-mutation.)
+crate's code, definitions, proofs without their imports, and mutations, without comments, and not of the crates below
+it. A mutation that is no longer rejected makes a test weaker, and no claim false, so the gate believes the record. (rt
+must-fail takes any file but *.md for a mutation.)
 
 A mutation (an edit, in this file) changes the code of a crate. Since a proof uses only the contracts of other
 functions, mutations of different functions are tested in one check, and each is rejected if its own function isn't
@@ -38,6 +38,9 @@ NAMES = re.compile(
 )
 # The greatest length of a reason that is printed.
 SHOWN = 160
+# Lines that say nothing of what is proved, and lines of a proof that import a name or declare a module.
+COMMENT = re.compile(rb"\s*(?:(?://|--).*)?$")
+IMPORT = re.compile(rb"\s*(?:pub )?(?:use|mod) .*$")
 # The folders of a crate that the prover reads.
 READ = ["src", "specs", "proofs"]
 TOP = Path(__file__).resolve().parent.parent
@@ -224,13 +227,20 @@ def check_edited(folder: Path, kept: Path | None, command: Sequence[str], edits:
         return ran.returncode, ran.stderr + ran.stdout
 
 
+def content(path: Path, is_proof: bool) -> bytes:
+    """What a record has of a file: no comment, and of a proof no line that imports a name or declares a module."""
+    lines = path.read_bytes().split(b"\n")
+    return b"\n".join(it for it in lines if not COMMENT.match(it) and not (is_proof and IMPORT.match(it)))
+
+
 def record(folder: Path, toolchain: str) -> str:
     """What is on record of a crate whose mutations were all rejected."""
     files = [it for part in READ for it in (folder / part).rglob("*") if it.is_file()]
     edits = [*(folder / "must-fail").glob("*.edit")]
     made = hashlib.sha256()
     for path in sorted([*files, *edits]):
-        made.update(f"{path.relative_to(folder)} {path.stat().st_size}\n".encode() + path.read_bytes())
+        text = content(path, path.is_relative_to(folder / "proofs"))
+        made.update(f"{path.relative_to(folder)} {len(text)}\n".encode() + text if text else b"")
     kit, logic = TOOLCHAIN.findall(toolchain)[0]
     return f"{made.hexdigest()}\n{len(edits)} mutations are refused by {kit} {logic}\n"
 

@@ -39,7 +39,7 @@
  *   meaning.
  * - No two places that a call is given overlap, except two that it only reads, and during the call
  *   no other thread reads or writes what it writes, or writes what it reads.
- * - The thread has 64 KB of stack for a count or a call on a register, and 256 KB for
+ * - The thread has 96 KB of stack for a count or a call on a register, and 256 KB for
  *   board_script, board_replay, board_replay_length, board_trace and board_trace_length. A
  *   board_room is 1 MiB, so it belongs in static memory or on the heap.
  */

@@ -1,4 +1,7 @@
-/** The worker: it carries out the page's orders, of which a long one gives way to others from time to time. */
+/**
+ * The worker: it carries out the page's orders, of which a long one gives way to others from time to time. Where a
+ * browser makes no worker, the page runs this itself, with a port in place of the worker's global scope.
+ */
 import { Engine } from "./engine/engine";
 import type { Kind, Orders } from "./engine/orders";
 import { pausing } from "./engine/pausing";
@@ -14,23 +17,28 @@ export type Reply =
   | { readonly id: number; readonly done: number }
   | { readonly id: number; readonly error: Problem };
 
-/** The part of a worker's global scope that the page uses. */
-declare const self: { onmessage: (event: MessageEvent<Message>) => void; postMessage(reply: Reply): void };
+/** What orders come by, and answers go by. */
+interface Port {
+  onmessage: ((event: MessageEvent<Message>) => void) | null;
+  postMessage(reply: Reply): void;
+}
+declare const self: Port & { readonly orders?: Port };
 
+const port = self.orders ?? self;
 const engine = new Engine();
 const cancelled = new Set<number>();
 
-self.onmessage = async ({ data }) => {
+port.onmessage = async ({ data }) => {
   const { id, kind } = data;
   if (kind === "cancel") {
     cancelled.add(id);
     return;
   }
-  const progress = pausing((done) => self.postMessage({ id, done }), () => cancelled.has(id));
+  const progress = pausing((done) => port.postMessage({ id, done }), () => cancelled.has(id));
   try {
-    self.postMessage({ id, value: await engine.carryOut(kind, data.ask as never, progress) });
+    port.postMessage({ id, value: await engine.carryOut(kind, data.ask as never, progress) });
   } catch (why) {
-    self.postMessage({ id, error: problemOf(why) });
+    port.postMessage({ id, error: problemOf(why) });
   }
   cancelled.delete(id);
 };

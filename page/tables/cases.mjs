@@ -3,6 +3,8 @@
  *
  *     == What it is
  *     -- table            the text as it is pasted; → is a tab, and {U+00A0} that character
+ *     -- workbook         in place of a table: the cells of a workbook, of which `~~so~~` is struck out
+ *     -- page             in place of a table: a web page
  *     -- questions        the open questions: a kind, and its row if it is about one
  *     -- faults           the faults: a row and a meaning
  *     -- answers          question = option; `leave ROW`; `votes = COLUMN`; `thousands = .`
@@ -32,10 +34,12 @@ function caseOf(file, text) {
     else if (line !== "" && !line.startsWith("#")) throw new Error(`${file}, ${title}: '${line}' is in no part`);
   }
   const linesOf = (name) => (parts.get(name) ?? []).filter((line) => line !== "" && !line.startsWith("# "));
-  const table = (parts.get("table") ?? []).join("\n").replace(/\n+$/, "\n");
+  const kind = ["table", "workbook", "page"].find((it) => parts.has(it));
+  const table = (parts.get(kind) ?? []).join("\n").replace(/\n+$/, "\n");
   return {
     title: `${file}: ${title.trim()}`,
     table: plain(table),
+    kind,
     questions: linesOf("questions"),
     faults: linesOf("faults"),
     answers: linesOf("answers"),

@@ -3,8 +3,11 @@ import assert from "node:assert/strict";
 import { test } from "node:test";
 import { casesOf } from "./cases.mjs";
 import { checkAgain, checkNothingIsLost, checkNothingIsMended } from "./checks.mjs";
+import { parsed } from "./pages.mjs";
+import { workbookOf } from "./workbooks.mjs";
 
-const { guessedLayout, layoutWith, readTable, sheetOf, strictTable } = await import(process.env.READER);
+const { contentsOf, guessedLayout, layoutWith, readTable, sheetOf, sheetsOfHtml, strictTable } =
+  await import(process.env.READER);
 const HEADER = "code,name,votes,chair,chair_name,suspended";
 const EMPTY = { chosen: new Map(), leftOut: new Set() };
 
@@ -49,12 +52,19 @@ function refusalOf(table) {
   return "";
 }
 
-function check({ table, questions, faults, answers, members, notices, unreadable }) {
+/** The sheet of a case. */
+function sheetIn({ table, kind }) {
+  if (kind === "page") return sheetsOfHtml(contentsOf({ text: `<html>${table}` }).html, parsed)[0].sheet;
+  return kind === "workbook" ? contentsOf({ parts: workbookOf(table) }).sheets[0].sheet : sheetOf(table);
+}
+
+function check(it) {
+  const { table, questions, faults, answers, members, notices, unreadable } = it;
   if (unreadable) {
     for (const words of unreadable) assert.ok(refusalOf(table).includes(words), refusalOf(table) || "it is read");
     return;
   }
-  const sheet = sheetOf(table);
+  const sheet = sheetIn(it);
   const first = readTable(sheet, guessedLayout(sheet), EMPTY);
   assert.deepEqual(questionsOf(first), [...questions].sort(), first.questions.map((it) => it.words).join("\n"));
   assert.deepEqual(faultsOf(first), faults, first.faults.map((it) => it.reason).join("\n"));

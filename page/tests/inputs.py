@@ -4,6 +4,7 @@ from __future__ import annotations
 
 import io
 import zipfile
+from collections.abc import Callable
 from itertools import islice, product
 from string import ascii_uppercase
 from xml.sax.saxutils import escape
@@ -302,6 +303,35 @@ WORKBOOK_SCRIPT = (
     "USA,831401 ARM,2743 BEL,65567 XKX,86988 script open,1 open,2 move,USA,1 move,ARM,2 move,BEL,2 move,XKX,2 "
     "suspend,XKX"
 ).split()
+
+
+def swollen(size: int, sheets: int, text: str = "<c/>") -> bytes:
+    """A small workbook whose sheets have very many letters, each in one row."""
+    parts = {f"xl/worksheets/sheet{at}.xml": f"<row>{text * (size // len(text))}</row>" for at in range(1, sheets + 1)}
+    names = "".join(f'<sheet name="{at}" r:id="rId{at}"/>' for at in range(1, sheets + 1))
+    targets = "".join(f'<Relationship Id="rId{at}" Target="worksheets/sheet{at}.xml"/>' for at in range(1, sheets + 1))
+    book = {"xl/workbook.xml": f"<workbook>{names}</workbook>", "xl/_rels/workbook.xml.rels": f"<x>{targets}</x>"}
+    return zip_of({**book, **parts})
+
+
+def pictured(letters: int) -> bytes:
+    """A page that was saved in Windows-1252, with a curly apostrophe and a picture in it."""
+    head = "<tr><th>Code<th>Name<th>Votes<th>Chair"
+    rows = "<tr><td>AAA<td>Alland’s<td>5<td>1<tr><td>BBB<td>Belland<td>6<td>2"
+    picture = f'<img src="data:image/png;base64,{"A" * letters}">'
+    return f"<html>{picture}<table>{head}{rows}</table>".encode("cp1252")
+
+
+# Files that take much longer to read than they are long: how they are made, what comes, and its words.
+HOSTILE: dict[str, tuple[Callable[[], bytes], str, str]] = {
+    "cells.xlsx": (lambda: swollen((8 << 20) - 100, 1), "#refusal", "more than 400,000 tags"),
+    "large.xlsx": (lambda: swollen(9 << 20, 1), "#refusal", "has more than a table of members"),
+    "sheets.xlsx": (lambda: swollen(3 << 20, 30, " "), "#refusal", "has more than a table of members"),
+    "styles.html": (lambda: b"<html>" + b"<style " * 60_000, "#refusal", "There is no table in this page"),
+    "struck.html": (lambda: b"<table><td>" + b"<s>" * 19_990, "#refusal", "There is no table in this page"),
+    "picture.html": (lambda: pictured(1 << 16), "#table-notices", "The table was read as cp1252"),
+}
+
 # A table on the clipboard as HTML, as a spreadsheet or a browser gives it.
 HTML = """<meta charset="utf-8"><style>td { color: red }</style>
 <table><tr><th>Director</th><th>Member</th><th>Votes</th></tr>
@@ -309,4 +339,14 @@ HTML = """<meta charset="utf-8"><style>td { color: red }</style>
 <tr style="color: red"><td rowspan="3" style='x'>Hilbers<!-- x --></td><td>Armenia</td><td>2,743</td></tr>
 <tr><td>Belgium</td><td> 65,567 </td></tr>
 <tr><td>Kosovo<sup>2</sup></td><td>86,988</td></tr></table>"""
+# A table of a web page in which something is struck out, in each way, also by a tag that has a "<" in an attribute.
+STRUCK = """<style>.old { text-decoration: line-through }</style>
+<table><tr><th>Code<th>Name<th>Votes<th>Chair
+<tr><td>AAA<td><s>Old</s> Alland<td><del>50</del> <ins>40</ins><td>1
+<tr><td>BBB<td>Belland<td><strike>30</strike>25<td>2
+<tr style="text-decoration: line-through"><td>CCC<td>Celland<td>15<td>2
+<tr><td>DDD<td>Delland<td><span style="text-decoration-line: line-through">14</span> 12<td>3
+<tr><td>EEE<td>Elland<td><del title="<">9</del> 8<td title="<s>">3
+<tr><td>FFF<td>Felland<td><b class="old">7</b> 6<td>3</table>"""
+STRUCK_SCRIPT = "AAA,40 BBB,25 DDD,12 FFF,6 script open,1 open,2 open,3 move,AAA,1 move,BBB,2 move,DDD,3 move,FFF,3"
 HTML_SCRIPT = "USA,831401 ARM,2743 BEL,65567 XKX,86988 script open,1 open,2 move,USA,1 move,ARM,2 move,BEL,2 move,XKX,2"

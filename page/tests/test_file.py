@@ -11,6 +11,8 @@ from pathlib import Path
 from chromium import Page
 from figures import check_figures
 from oracle import TOP, Oracle
+from selenium.webdriver.common.keys import Keys
+from test_tables import open_file
 
 MOST_BYTES = 1024 * 1024
 BUILT = TOP / "page" / "out" / "board.html"
@@ -98,11 +100,16 @@ def test_other_folder(page: Page) -> None:
         page.open(copy)
 
 
-def test_without_a_worker(page: Page, oracle: Oracle) -> None:
-    # Catches: an empty page where a browser makes no worker for a file.
+def test_without_a_worker(page: Page, oracle: Oracle, tmp_path: Path) -> None:
+    # Catches: an empty page where a browser makes no worker for a file, and workbooks that a worker alone can read.
     page.open(None, "Worker")
     assert page.act("votes", "XAD", "+40%")
     check_figures(page, oracle, ["votes,XAD,318104"])
+    page.click("#export")
+    name, content = page.downloaded("#export-xlsx")
+    page.press(Keys.ESCAPE)
+    open_file(page, tmp_path / name, content, "#refusal")
+    assert "the workbook of results that this page exports" in page.text("#refusal")
 
 
 def test_without_webassembly(page: Page) -> None:

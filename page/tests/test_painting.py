@@ -249,8 +249,7 @@ def test_lowest_terms(page: Page) -> None:
     page.run(DROP, "it.csv", inputs.PLAIN)
     page.until(lambda: page.all("#table-take"), "the preview")
     page.click("#table-take")
-    page.settle()
-    assert page.act("votes", "CCC", "35")
+    page.until(lambda: page.act("votes", "CCC", "35"), "the member to be changed")
     page.click("#tab-table")
     cells = page.run("return [...document.querySelectorAll('#chair-table td')].map((it) => it.title);")
     fractions = [re.match(r"(-?\d+)/(\d+) ", str(it)) for it in cells]

@@ -21,6 +21,7 @@ BROWSERS = EVERY
 NOT_IN_FIREFOX = {
     "test_paste_html",
     "test_paste_html_without_merged_cells",
+    "test_paste_html_with_struck_text",
     "test_paste_while_a_dialog_is_open",
     "test_width_of_a_phone",
 }
@@ -99,16 +100,25 @@ NEVER_READ = """const post = Worker.prototype.postMessage;
   window.neverRead = true;"""
 
 
-def test_reading_is_cancelled(page: Page, tmp_path: Path) -> None:
+FILES = {
+    "long.csv": b"Code,Votes,Chair\nAAA,5,1\nBBB,6,2\n",
+    "long.xlsx": inputs.xlsx_of({"One": [["Code", "Votes", "Chair"], ["AAA", 5, 1], ["BBB", 6, 2]]}),
+}
+
+
+@pytest.mark.parametrize("name", FILES)
+def test_reading_is_cancelled(page: Page, name: str, tmp_path: Path) -> None:
     # Catches: a file that can't be stopped while it is read, or that takes the study on the page with it; a text that
     # is read by the page itself, whatever its length.
     page.act("votes", "XAA", "5")
     page.run(NEVER_READ)
-    file = tmp_path / "long.csv"
-    file.write_text("Code,Votes,Chair\nAAA,5,1\nBBB,6,2\n")
+    file = tmp_path / name
+    file.write_bytes(FILES[name])
     page.at("#file").send_keys(str(file))
     page.until(lambda: page.all("#waiting-cancel"), "the progress")
     assert page.text("#waiting").startswith("The table is being read.")
+    page.click("#tab-table")
+    assert page.all("#chair-table") and page.all("#waiting-cancel"), "a page that doesn't answer"
     page.click("#waiting-cancel")
     page.until(lambda: not page.all("#waiting"), "the end")
     assert not page.all("dialog") and len(page.all("#changes > li")) == 1
@@ -120,6 +130,17 @@ def test_reading_is_cancelled(page: Page, tmp_path: Path) -> None:
     page.run("window.neverRead = false;")
     page.at("#file").send_keys(str(file))
     page.until(lambda: page.all("#table-dialog"), "the table")
+
+
+@pytest.mark.parametrize("name", inputs.HOSTILE)
+def test_files_of_an_attacker(page: Page, name: str, tmp_path: Path) -> None:
+    # Catches: a file that takes the study on the page with it, or of which nothing is said.
+    page.act("votes", "XAA", "5")
+    made, place, words = inputs.HOSTILE[name]
+    open_file(page, tmp_path / name, made(), place)
+    assert words in page.text(place)
+    page.press(Keys.ESCAPE)
+    assert len(page.all("#changes > li")) == 1 and page.act("votes", "XAB", "6")
 
 
 def records(page: Page) -> list[str]:
@@ -402,6 +423,35 @@ def test_paste_html_without_merged_cells(page: Page) -> None:
     assert page.at("#delimiter").get_property("value") == "\t"
 
 
+def check_struck(page: Page, name: str) -> None:
+    """Answers what is asked about the table with struck text, and takes it."""
+    assert "Struck out: row 4. Do they count?" in page.text("#struck") and not page.at("#table-take").is_enabled()
+    words = "'Old, 50' in row 2, '30' in row 3, '14' in row 5 and 2 more"
+    assert f"Struck out in part: rows 2 to 3, 5 to 7 ({words})" in page.text("#struck-part")
+    page.click("#struck-no")
+    page.click("#struck-part-yes")
+    page.click("#leave-6")
+    take(page, name)
+    assert records(page) == inputs.STRUCK_SCRIPT.split()
+
+
+@pytest.mark.parametrize("is_in_dialog", [False, True])
+def test_paste_html_with_struck_text(page: Page, is_in_dialog: bool) -> None:
+    # Catches: a text that is used though the HTML says what of it is struck out.
+    if is_in_dialog:
+        page.click("#paste")
+        page.at("#paste-text").click()
+    page.run(PASTE, inputs.STRUCK, "Code\tName\tVotes\tChair\nAAA\tAlland\t40\t1\n")
+    page.until(lambda: page.all("#table-dialog"), "the preview")
+    check_struck(page, "Pasted table")
+
+
+def test_a_page_with_struck_text(page: Page, tmp_path: Path) -> None:
+    # Catches: a part that is read though it is struck out, a row that counts without a question, and `<ins>` left out.
+    open_file(page, tmp_path / "struck.html", f"<html>{inputs.STRUCK}".encode())
+    check_struck(page, "struck")
+
+
 @pytest.mark.parametrize("place", ["#table-dialog .close", "#merged-no"])
 def test_paste_while_a_dialog_is_open(page: Page, place: str) -> None:
     # Catches: a paste of which nothing is said.
@@ -459,6 +509,15 @@ def test_width_of_a_phone(page: Page) -> None:
     page.run(DROP, "printed.csv", inputs.PRINTED)
     page.until(lambda: page.all("#table-dialog"), "the preview")
     assert not page.look("wide", NARROW)
+
+
+def test_the_preview_is_bounded(page: Page, tmp_path: Path) -> None:
+    # Catches: a preview of all rows, columns or letters that a table may have.
+    row = ",".join(["1", "A" * 1000, *["x"] * 98])
+    text = "\n".join(["Votes,Name" + ",C" * 98, *[row] * 399])
+    open_file(page, tmp_path / "wide.csv", text.encode())
+    assert len(page.all("#preview tbody tr")) == 100 and page.text(".preview p") == "and 300 rows more"
+    assert page.text("#preview tbody tr:nth-child(2) td:nth-of-type(2)") == "A" * 200 + "…"
 
 
 @pytest.mark.parametrize("words", inputs.BEYOND)

@@ -1,7 +1,7 @@
 /** What the page uses of jszip: Debian's own types need those of other packages. */
 declare module "jszip" {
   interface Stream {
-    on(name: "data", listener: (piece: string) => void): Stream;
+    on(name: "data", listener: (piece: Uint8Array) => void): Stream;
     on(name: "error" | "end", listener: () => void): Stream;
     pause(): Stream;
     resume(): Stream;
@@ -9,11 +9,9 @@ declare module "jszip" {
   class JSZip {
     readonly files: Readonly<Record<string, unknown>>;
     static loadAsync(bytes: ArrayBuffer): Promise<JSZip>;
-    file(name: string): { internalStream(type: "string"): Stream } | null;
+    file(name: string): { internalStream(type: "uint8array"): Stream } | null;
     file(name: string, content: string, options: { readonly date: Date }): JSZip;
-    generateAsync(
-      options: { readonly type: "blob"; readonly compression: "DEFLATE"; readonly mimeType: string },
-    ): Promise<Blob>;
+    generateAsync(options: { readonly type: "uint8array"; readonly compression: "DEFLATE" }): Promise<Uint8Array>;
   }
   export default JSZip;
 }

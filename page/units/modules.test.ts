@@ -6,9 +6,10 @@ import { test } from "node:test";
 
 interface Bundle {
   readonly inputs: Readonly<Record<string, { readonly imports: readonly { readonly path: string }[] }>>;
+  readonly outputs: Readonly<Record<string, { readonly inputs: object }>>;
 }
 
-const { inputs }: Bundle = JSON.parse(readFileSync(process.env["BUNDLE"] ?? "", "utf8"));
+const { inputs, outputs }: Bundle = JSON.parse(readFileSync(process.env["BUNDLE"] ?? "", "utf8"));
 
 /** The modules from which a way of imports leads back to themselves. */
 function inCycles(): string[] {
@@ -27,6 +28,14 @@ test("no module imports itself, directly or through others", () => {
   // Catches: two modules that can't be read or tested one without the other.
   assert.ok(Object.keys(inputs).length > 60);
   assert.deepEqual(inCycles(), []);
+});
+
+test("zip files are packed and unpacked by the worker's script alone", () => {
+  // Catches: a workbook that is unpacked on the page's own thread, and a second copy of what unpacks it.
+  const zipped = (script: string) => Object.keys(outputs).filter((it) => it.endsWith(script))
+    .flatMap((it) => Object.keys(outputs[it]?.inputs ?? {})).filter((it) => it.includes("nodejs/jszip/"));
+  assert.deepEqual(zipped("main.js"), []);
+  assert.ok(zipped("worker.js").length > 0);
 });
 
 test("the versions of all modules of Debian's in the page are recorded", () => {

@@ -5,12 +5,13 @@ import { test } from "node:test";
 import { loadSync } from "../../bindings/javascript/src/load";
 import { Register } from "../../bindings/javascript/src/register";
 import type { Place } from "../src/engine/standing";
+import { recordOf } from "../src/study/script";
+import { FIRST_VIEW, studyOf, withScenario, type Command, type What } from "../src/study/study";
+import { dataText, readData } from "../src/study/studyData";
 import { secondTable, type SecondTable } from "../src/tables/second";
 import type { TableBase, TableMember } from "../src/tables/types";
 
 loadSync(readFileSync(process.env["MODULE"] ?? ""));
-
-const SAME = "Chairs are the same where they share the most votes of members.";
 
 type Row = readonly [code: string, name: string, votes: number, chair: number | null, suspended?: boolean];
 
@@ -68,36 +69,34 @@ test("any second table is what the register has after the changes", () => {
   }
 });
 
-test("a chair is the one with which it shares the most votes", () => {
-  // Catches: chairs that are compared by numbers that only say in which order a table names them.
-  const rows: Row[] = [["AAA", "Alland", 50, 1], ["BBB", "Belland", 30, 2], ["CCC", "Celland", 20, 2]];
-  const first = tableOf(rows, { 1: "Moyo" });
-  const second = tableOf([["BBB", "Belland", 31, 1], ["CCC", "Celland", 20, 1], ["AAA", "Alland", 50, 2]],
-    { 1: "Lind", 2: "Banda" });
-  const { steps, said } = taken(first, second);
-  assert.deepEqual(steps, [{ what: { kind: "votes", code: "BBB", votes: 31 } }]);
-  const named = "No change says another name of a chair: 1 Moyo is Banda.";
-  assert.deepEqual(said, ["1 member with other votes.", SAME, named]);
-});
+/** A table with its changes, as the tests of the package for Python read it, too. */
+interface Case {
+  readonly title: string;
+  readonly first: readonly Row[];
+  readonly firstNames?: Record<number, string>;
+  /** Chairs of the first table without members. */
+  readonly open?: readonly number[];
+  readonly second: readonly Row[];
+  readonly secondNames?: Record<number, string>;
+  readonly changes: SecondTable["steps"];
+  readonly said: readonly string[];
+}
 
-test("members are the same by name, and else by code", () => {
-  // Catches: a member that left and came in one, a code that two members have, a new member's name that is lost.
-  const first = tableOf([["TUR", "Turkey", 50, 1], ["XAA", "Old", 30, 1], ["CIV", "Ivory", 20, 2]]);
-  const rows: Row[] = [["XAB", "T\u00fcrkiye", 50, 1], ["XAA", "New", 5, 3], ["CIV", "C\u00f4te", 20, 2]];
-  const second = tableOf(rows, { 3: "North" });
-  const { steps, said, board } = taken(first, second);
-  assert.deepEqual(steps, [
-    { what: { kind: "move", code: "XAA", chair: null } },
-    { what: { kind: "withdraw", code: "XAA" } },
-    { what: { kind: "open", chair: 3 }, chairName: "North" },
-    { what: { kind: "admit", code: "XAA", votes: 5 }, name: "New" },
-    { what: { kind: "move", code: "XAA", chair: 3 } },
-  ]);
-  assert.deepEqual(Object.keys(board.members).sort(), ["CIV", "TUR", "XAA"]);
-  const spelled = "No change says another name of a member: Turkey is T\u00fcrkiye; Ivory is C\u00f4te.";
-  assert.deepEqual(said, ["new: XAA New; gone: XAA Old; 1 chair opened.", SAME, spelled]);
-  const same = tableOf([["XAA", "Alland", 1, null], ["XAB", "Belland", 2, null]]);
-  const other = tableOf([["XAA", "Celland", 3, null], ["XAC", "Alland", 1, null], ["XAB", "Belland", 2, null]]);
-  // Alland keeps the code that Celland has in the second table.
-  assert.deepEqual(taken(same, other).steps, [{ what: { kind: "admit", code: "XAC", votes: 3 }, name: "Celland" }]);
-});
+const cases = JSON.parse(readFileSync(process.env["SECOND_TABLES"] ?? "", "utf8")) as Case[];
+assert.ok(cases.length > 7);
+for (const { title, first, firstNames, open, second, secondNames, changes, said } of cases) {
+  test(`a second table: ${title}`, () => {
+    // Catches: chairs that are compared by numbers that only say in which order a table names them; a member that left
+    // and came in one, a code that two members have, a name that is lost, also in a saved study.
+    const base = tableOf(first, firstNames);
+    const found = taken(base, tableOf(second, secondNames), open);
+    assert.deepEqual(found.steps, changes);
+    assert.deepEqual(found.said, said);
+    const empty = { script: "", names: {}, chairNames: {}, rows: {}, choices: [], hash: "", columns: {} };
+    const study = studyOf("It", empty);
+    const saved = readData(dataText({ study: withScenario(study, "Later", changes), view: FIRST_VIEW }, []));
+    const told = (it: { what: What; name?: string; chairName?: string }) =>
+      [recordOf(it.what as Command), it.name, it.chairName];
+    assert.deepEqual(saved?.study.scenarios[0]?.changes.map(told), changes.map(told));
+  });
+}

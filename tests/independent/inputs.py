@@ -1,4 +1,4 @@
-"""Inputs of `board replay`, made from a seed: each kind is a function from a source of chance to an input."""
+"""Inputs of `board`, made from a seed: each kind is a function from a source of chance to an input."""
 from __future__ import annotations
 
 import re
@@ -167,6 +167,34 @@ def hostile(chance: Random) -> Input:
     return Input(re.sub(rb'(\w+)"?[\r\n]*$', rb'"\1', text) if chance.random() < 0.1 else text)
 
 
+def some_event(chance: Random, codes: list[str], chairs: list[int], readers: int) -> list[str]:
+    """A record of a schedule: often as many steps as a reading or a publication has, or one more or less."""
+    steps = str(chance.choice([1, 2, 33, 34, 35, 36, 37, 38, chance.randint(1, 40), chance.randint(0, 1001)]))
+    kind = chance.random()
+    if kind < 0.25:
+        return ["submit", *some_command(chance, codes, chairs, 1)]
+    if kind < 0.5:
+        return ["publish"]
+    return ["writer", steps] if kind < 0.75 else ["reader", str(chance.randint(1, readers)), steps]
+
+
+def schedules(chance: Random) -> Input:
+    """A schedule of the two-copy machine, some with a record that isn't one."""
+    codes, chairs = some_codes(chance, chance.randint(1, 4)), chance.sample(range(1, 33), chance.randint(1, 3))
+    readers, journal = chance.randint(1, 4), chance.choice([1_000_000, chance.randint(1, 9)])
+    events = [some_event(chance, codes, chairs, readers) for _ in range(chance.randint(0, 30))]
+    records = with_members(chance, codes, 1, events)
+    words = ("trace", "--readers", str(readers), "--journal", str(journal))
+    return Input(styled(chance, spoiled(chance, records) if chance.random() < 0.3 else records), words)
+
+
+def threads(chance: Random) -> Input:
+    """An input for the writer's thread and those of two readers, some with a record that isn't one."""
+    records = some_script(chance, 2)
+    words = ("serve", "--journal", str(chance.choice([1_000_000, chance.randint(1, 40)])))
+    return Input(styled(chance, spoiled(chance, records) if chance.random() < 0.3 else records), words)
+
+
 def boards(chance: Random) -> Input:
     """A board of up to 32 chairs, read at all majorities, changed and read again."""
     many = chance.choice([chance.randint(1, 14), chance.randint(8, 14), chance.randint(15, 32), 32])
@@ -191,12 +219,15 @@ def many_members(chance: Random) -> Input:
 def limited(chance: Random) -> Input:
     """A journal that may become full, readers that there may not be, limits out of their range, and wrong words."""
     options = [
-        ("--readers", str(chance.choice([0, 1, 2, 3, 4, 4, 5, "x"]))),
-        ("--journal", str(chance.choice([0, *range(1, 30), 999_999, 1_000_000, 1_000_001]))),
+        ("--readers", str(chance.choice([0, 1, 2, 3, 4, 4, 5, "x", "+2", "03", "++1"]))),
+        ("--journal", str(chance.choice([0, *range(1, 30), 999_999, 1_000_000, 1_000_001, "+7", "007"]))),
     ]
-    words = ["replay", *(word for option in chance.sample(options, chance.choice([0, 1, 2, 2])) for word in option)]
+    command = chance.choice(["replay", "replay", "trace", "serve"])
+    words = [command, *(word for option in chance.sample(options, chance.choice([0, 1, 2, 2])) for word in option)]
     if chance.random() < 0.1:
-        words = chance.choice([[], ["play"], [*words, "--reader", "1"], [*words, "--readers"]])
+        twice = [*words, "--journal", "5", "--journal", "5"]
+        joined = [command, *("=".join(option) for option in options)]
+        words = chance.choice([[], ["play"], [*words, "--reader", "1"], [*words, "--readers"], twice, joined])
     return Input(styled(chance, some_script(chance, chance.randint(1, 5))), tuple(words))
 
 
@@ -227,8 +258,10 @@ def changed_examples(chance: Random) -> Input:
 
 # The kinds, and how many of 100 inputs are of each.
 KINDS: dict[str, tuple[Callable[[Random], Input], int]] = {
-    "scripts": (scripts, 30),
-    "hostile": (hostile, 37),
+    "scripts": (scripts, 26),
+    "hostile": (hostile, 31),
+    "schedules": (schedules, 6),
+    "threads": (threads, 4),
     "boards": (boards, 6),
     "members": (many_members, 6),
     "limits": (limited, 7),

@@ -1,14 +1,13 @@
-"""The register of members, chairs and suspensions as docs/FORMATS.md and docs/DEFINITIONS.md describe it, and nothing
-else of the repository: from an input's bytes to all that `board replay` prints, and its status."""
+"""The register of members, chairs and suspensions, and the records of an input, as docs/FORMATS.md and
+docs/DEFINITIONS.md describe them, and nothing else of the repository."""
 from __future__ import annotations
 
 import csv
 import io
 import re
-from collections.abc import Iterator
+from collections.abc import Callable, Iterator
 from dataclasses import dataclass, field
-
-from tests.independent.counts import CLAUSES, counts, quota
+from functools import partial
 
 MOST_BYTES = 4_194_304
 MOST_MEMBERS = 256
@@ -24,15 +23,6 @@ FAULTS = set(
 )
 
 csv.field_size_limit(MOST_BYTES)
-
-
-@dataclass(frozen=True)
-class Answer:
-    """The program's output, its words on standard error (None: some reason in unspecified words), its status."""
-
-    printed: bytes
-    reason: bytes | None
-    status: int
 
 
 class Refused(Exception):
@@ -185,49 +175,38 @@ def code_of(word: str) -> str:
     return word
 
 
-def command(register: Register, fields: list[str]) -> None:
-    """Carries out the command of a record."""
+def command_of(fields: list[str]) -> Callable[[Register], None]:
+    """The command of a record."""
     match fields:
         case ["open", chair]:
-            register.open(number_of(chair, 1, 32))
+            return partial(Register.open, chair=number_of(chair, 1, 32))
         case ["close", chair]:
-            register.close(number_of(chair, 1, 32))
+            return partial(Register.close, chair=number_of(chair, 1, 32))
         case ["move", code, "none"]:
-            register.move(code_of(code), None)
+            return partial(Register.move, code=code_of(code), chair=None)
         case ["move", code, chair]:
-            register.move(code_of(code), number_of(chair, 1, 32))
+            return partial(Register.move, code=code_of(code), chair=number_of(chair, 1, 32))
         case ["votes", code, votes]:
-            register.votes(code_of(code), number_of(votes, 0, MOST_VOTES))
+            return partial(Register.votes, code=code_of(code), votes=number_of(votes, 0, MOST_VOTES))
         case ["suspend", code]:
-            register.suspend(code_of(code))
+            return partial(Register.suspend, code=code_of(code))
         case ["restore", code]:
-            register.restore(code_of(code))
+            return partial(Register.restore, code=code_of(code))
         case ["admit", code, votes]:
-            register.admit(code_of(code), number_of(votes, 0, MOST_VOTES))
+            return partial(Register.admit, code=code_of(code), votes=number_of(votes, 0, MOST_VOTES))
         case ["withdraw", code]:
-            register.withdraw(code_of(code))
+            return partial(Register.withdraw, code=code_of(code))
         case _:
             raise Malformed(fields)
 
 
-def fraction(numerator: int, denominator: int) -> str:
-    """A fraction that isn't reduced; it is absent if it would be divided by 0."""
-    return f"{numerator}/{denominator}" if denominator else "-"
-
-
-def reading(reader: int, sheet: Sheet, majority: str) -> list[str]:
-    """The lines of a reading: the sheet's own, and one for each open chair by number."""
-    weights = tuple(sheet.weights.values())
-    found, coalitions = counts(weights, sheet.total, majority), 1 << len(weights)
-    least, cast = quota(weights, sheet.total, majority), sum(weights)
-    lines = [
-        f"reading,{reader},{sheet.front},{majority},{len(weights)},{least},{cast},{sheet.total},"
-        f"{found.winning},{coalitions}"
-    ]
-    for (chair, weight), swings in zip(sheet.weights.items(), found.swings):
-        under = [coalitions // 2, sum(found.swings), found.winning, coalitions - found.winning]
-        lines.append(f"chair,{chair},{weight},{swings}," + ",".join(fraction(swings, other) for other in under))
-    return lines
+def line_of(register: Register, command: Callable[[Register], None]) -> str:
+    """Carries out a command; its line."""
+    try:
+        command(register)
+    except Refused as refused:
+        return f"refused,{refused.number},{REFUSALS[refused.number]}"
+    return f"accepted,{register.accepted}"
 
 
 def member_of(record: int, fields: list[str]) -> tuple[str, Member]:
@@ -255,55 +234,3 @@ def opening_of(records: Iterator[tuple[int, list[str]]]) -> dict[str, Member]:
     if len(dict(members)) < len(members):
         raise Fault(0, "DuplicateMember")
     return dict(members)
-
-
-def lines_of(given: bytes | None, readers: int, journal: int) -> Iterator[str]:
-    """The lines of a run, up to its fault."""
-    records = records_of(given)
-    register = Register(opening_of(records), journal)
-    published = register.sheet()
-    for record, fields in records:
-        try:
-            match fields:
-                case ["publish"]:
-                    published = register.sheet()
-                    yield f"published,{published.front}"
-                case ["read", reader, majority] if majority in CLAUSES:
-                    if not 1 <= number_of(reader) <= readers:
-                        raise Fault(record, "BadReader")
-                    yield from reading(int(reader), published, majority)
-                case _:
-                    command(register, fields)
-                    yield f"accepted,{register.accepted}"
-        except Refused as refused:
-            yield f"refused,{refused.number},{REFUSALS[refused.number]}"
-        except Malformed:
-            raise Fault(record, "BadRecord") from None
-
-
-def limits_of(words: tuple[str, ...]) -> tuple[int, int]:
-    """The number of readers and the journal's limit, from the words after `board`."""
-    said = dict(zip(words[1::2], words[2::2]))
-    if words[:1] != ("replay",) or len(words) % 2 == 0 or not said.keys() <= {"--readers", "--journal"}:
-        raise Malformed(words)
-    return number_of(said.get("--readers", "1"), 1, 4), number_of(said.get("--journal", "1000000"), 1, 1_000_000)
-
-
-def answer(words: tuple[str, ...], given: bytes | None, writable: bool) -> Answer:
-    """The answer of `board` with these words to these bytes, or to an input that can't be read (None), if its output
-    can be written or if it can't."""
-    lines: list[str] = []
-    name = ""
-    try:
-        readers, journal = limits_of(words)
-        for line in lines_of(given, readers, journal):
-            lines.append(line)
-    except Malformed:
-        return Answer(b"", None, 2)
-    except Fault as fault:
-        lines.append(f"fault,{fault.record},{fault.name}")
-        name = fault.name
-    if lines and not writable:
-        lines, name = [], "WriteFault"
-    printed = "".join(line + "\n" for line in lines).encode()
-    return Answer(printed, f"board: {name}\n".encode() if name else b"", 1 if name else 0)

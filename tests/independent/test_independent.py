@@ -1,6 +1,6 @@
-"""Compares `board replay` with an independent reader of docs/FORMATS.md and docs/DEFINITIONS.md, on inputs from a seed:
+"""Compares `board` with an independent reader of docs/FORMATS.md and docs/DEFINITIONS.md, on inputs from a seed:
 
-    tests/run tests/independent [--inputs N] [--seed N] [--keep FOLDER]
+    tests/run tests/independent [--inputs N] [--seed N] [--keep FOLDER] [--c]
 
 docs/FORMATS.md and docs/DEFINITIONS.md are all that the reader was written from. --keep writes each input that program
 and reader disagree about to a file of FOLDER. Inputs that hypothesis makes don't serve here: a board of 256 members is
@@ -21,7 +21,8 @@ import pytest
 
 from tests.independent.counts import TooLarge
 from tests.independent.inputs import KINDS, Input
-from tests.independent.register import FAULTS, REFUSALS, Answer, answer
+from tests.independent.register import FAULTS, REFUSALS
+from tests.independent.runs import Answer, answer
 from tests.shared.commands import TOP, Say
 
 SECONDS = 600
@@ -39,7 +40,8 @@ PLACES = [kind for kind, (_, share) in KINDS.items() for _ in range(share)]
 @dataclass(frozen=True)
 class Found:
     """The result of an input: its kind, how many before it couldn't be counted, whether the program's run succeeded,
-    the refusals and faults of that run, and the text to print if the program and the reader disagree."""
+    the refusals and faults of that run, and the text to print if the program and the reader disagree.
+    """
 
     kind: str
     left_out: int
@@ -91,11 +93,16 @@ def report(name: str, made: Input, said: Answer, ran: Answer, keep: Path | None)
     return "\n".join([*lines, f"  program: {shortened(ran)}", f"  reader:  {shortened(said)}"])
 
 
-def compared(program: Path, seed: int, keep: Path | None, place: int) -> Found:
-    """The result of the input at a place. If the reader can't count a board, the next draw replaces it."""
+def compared(program: Path, serves: bool, seed: int, keep: Path | None, place: int) -> Found:
+    """The result of the input at a place. If the reader can't count a board, or the program has no serve, the next draw
+    replaces it."""
     kind = PLACES[place * 37 % len(PLACES)]
+    if kind == "threads" and not serves:
+        kind = "scripts"
     for draw in range(100):
         made = KINDS[kind][0](Random(f"{seed}/{place}/{draw}"))
+        if not serves and made.words[:1] == ("serve",):
+            continue
         try:
             said = answer(made.words, made.given, made.output == "taken")
         except TooLarge:
@@ -118,7 +125,8 @@ def summary(found: list[Found]) -> str:
 @pytest.fixture(scope="session")
 def every(program: Path, pytestconfig: pytest.Config) -> list[Found]:
     """The results of all inputs. There are as many again as long as something hasn't occurred, at most TIMES."""
-    one = partial(compared, program, pytestconfig.getoption("--seed"), pytestconfig.getoption("--keep"))
+    serves = not pytestconfig.getoption("--c")
+    one = partial(compared, program, serves, pytestconfig.getoption("--seed"), pytestconfig.getoption("--keep"))
     many, found = pytestconfig.getoption("--inputs"), list[Found]()
     with ProcessPoolExecutor() as pool:
         while len(found) < TIMES * many and not {*EVERY} <= {name for it in found for name in it.occurred}:
@@ -126,7 +134,6 @@ def every(program: Path, pytestconfig: pytest.Config) -> list[Found]:
     return found
 
 
-@pytest.mark.parametrize("kind", KINDS)
 def test_agree(kind: str, every: list[Found], record_property: Say) -> None:
     # Catches: a line, a reason or a status of the program that isn't what the documents say of an input.
     found = [it for it in every if it.kind == kind]

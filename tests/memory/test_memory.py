@@ -14,7 +14,7 @@ import pytest
 from tests.cases.case_files import case_named
 from tests.shared.commands import TOP, Ended, Say, Words, printed
 from tests.shared.kept import Kept
-from tests.shared.libraries import over_libraries
+from tests.shared.libraries import STRICT, kit, over_libraries
 
 HERE = Path(__file__).parent
 TESTS = TOP / "out" / "memory_tests"
@@ -135,3 +135,11 @@ def test_calls(refusing: Refusing, name: str, record_property: Say) -> None:
     run = refusing.run([str(TESTS), name], b"")
     record_property("growths refused", run.refused)
     assert run.ended.status == 0 and run.refused, run
+
+
+def test_assumed(tmp_path: Path, record_property: Say) -> None:
+    # Catches: a function of C that doesn't do at its limits what the proof assumes of it.
+    made = tmp_path / "assumed"
+    archives = [f"{kit()}/c/libos_c.a", f"{kit()}/c/liblibc_c.a"]
+    printed(["cc", *STRICT, "-O1", "-o", str(made), str(HERE / "assumed.c"), *archives])
+    record_property("output", printed([str(made), "/dev/full"]).decode().strip())

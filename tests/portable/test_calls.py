@@ -73,6 +73,12 @@ def test_handles(built: Built) -> None:
     printed(built.calling("register/handles.c"))
 
 
+@on([AARCH64, GCC, CLANG])
+def test_boards(built: Built) -> None:
+    # Catches: a count that isn't the one over all coalitions, and more stack than board.h asks for.
+    printed(built.calling("release/calls.c"))
+
+
 @on(SYSTEMS)
 def test_structs(built: Built) -> None:
     # Catches: a struct whose size isn't the one that board.h gives.

@@ -15,7 +15,7 @@
 #define STACK_TIMES 1
 #endif
 
-enum { THREADS = 2, TURNS = 12, KILOBYTE = 1024, STACK = 64, SCRIPT_STACK = 256 };
+enum { THREADS = 2, TURNS = 12, KILOBYTE = 1024, STACK = 96, SCRIPT_STACK = 256 };
 
 /* A register with its model and its random commands, and memory for its counts. */
 struct work {

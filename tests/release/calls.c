@@ -1,5 +1,5 @@
 /* The calls of board.h that count boards: against a count over all coalitions of small boards, on input that is
- * refused, over a room with other content, on a thread with 64 KB of stack, and on threads at once. Ends in a line 'N
+ * refused, over a room with other content, on a thread with 96 KB of stack, and on threads at once. Ends in a line 'N
  * passed, M failed', and in that status. */
 #include "board.h"
 #include <pthread.h>
@@ -9,7 +9,7 @@
 /* The set of all chairs. */
 #define ALL UINT64_MAX
 
-enum { CHAIRS = 8, BOARDS = 300, MAJORITIES = 4, STACK = 65536, THREADS = 8, CALLS = 100 };
+enum { CHAIRS = 8, BOARDS = 300, MAJORITIES = 4, STACK = 98304, THREADS = 8, CALLS = 100 };
 
 static struct board_room room;
 static int passed, failed;

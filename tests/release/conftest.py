@@ -29,7 +29,7 @@ def sum_of(archive: Path) -> str:
 
 def released() -> Release:
     before = {it: sum_of(it) for it in (TOP / "out").glob("board-*-x86_64-*")}
-    linux, windows = printed([str(TOP / "tools" / "release" / "build")]).decode().split()
+    linux, windows, _ = printed([str(TOP / "tools" / "release" / "build")]).decode().split()
     return Release(TOP / linux, TOP / windows, before)
 
 

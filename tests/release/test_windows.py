@@ -22,8 +22,8 @@ WINE = "/usr/lib/wine"
 # The files of the archive alone, and those that it shares with the one for Linux.
 OWN = {"README.txt", "board.exe", "LICENCES-mingw-w64.txt"}
 SHARED = re.compile(
-    r"CHANGELOG\.md|CITATION\.cff|LICENCES\.txt|VERSION|board\.html"
-    r"|(bindings(?!/python/commands)|docs|examples|portable)/.*"
+    r"(CHANGELOG|SECURITY)\.md|CITATION\.cff|LICENCES\.txt|VERSION|board\.html"
+    r"|(bindings(?!/python/commands)|docs|examples|portable|tests)/.*"
 )
 COMMAND = "board.exe replay < examples\\three-chairs.csv"
 # The status of a program, its standard output and its standard error.

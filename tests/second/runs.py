@@ -9,7 +9,7 @@ from random import Random
 from tests.independent.counts import CLAUSES
 from tests.independent.inputs import Input, hostile, many_members, scripts
 from tests.independent.inputs import some_codes, some_command, some_votes, styled
-from tests.independent.register import limits_of
+from tests.independent.runs import limits_of
 from tests.shared.inputs import Call, of_cases, replays
 from tests.shared.runs import all_by_program
 from tests.shared.sizes import drawn, seed

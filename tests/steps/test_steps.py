@@ -169,14 +169,26 @@ def test_what_takes_no_step(planted: Planted, line: str) -> None:
         ),
         pytest.param(SERVE, SERVE[0], again("Output::new"), "writes", id="a second output"),
         pytest.param(
-            SERVE, SERVE[0], first(f"%planted = call i64 @write(i32 1, {AT}, i64 1)"), "writes", id="a write past it"
+            SERVE,
+            SERVE[0],
+            first(f"%planted = call i64 @write(i32 1, {AT}, i64 1)"),
+            "writes foreign",
+            id="a write past it",
+        ),
+        pytest.param(BOARD, READ, first(f"%planted = load i64, {AT}, align 8"), "plain", id="a plain load"),
+        pytest.param(BOARD, READ, first(f"store i64 1, {AT}, align 8"), "plain", id="a plain store"),
+        pytest.param(
+            SERVE, SERVE[0], first("%planted = call i64 @rattle_env(i64 8)"), "foreign", id="a look at the environment"
         ),
         pytest.param(
             SERVE,
             SERVE[0],
-            first('call void @"core::mem::forget::<i64>"(i64 0)'),
-            "kept",
-            id="memory that is kept",
+            first(f"%planted = call i64 @read(i32 0, {AT}, i64 1)"),
+            "foreign",
+            id="a read past the run",
+        ),
+        pytest.param(
+            SERVE, SERVE[0], first('call void @"core::mem::forget::<i64>"(i64 0)'), "kept", id="memory that is kept"
         ),
     ],
 )

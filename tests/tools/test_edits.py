@@ -162,5 +162,19 @@ def test_a_change_makes_a_record_old(crate: Path, two: list[Any], name: str) -> 
     (crate / "README.md").write_text("Read me.")
     assert before == edits.record(crate, "rattle-kit-1b logic 0f") != edits.record(crate, "rattle-kit-1 logic 0e")
     (crate / name).parent.mkdir(parents=True, exist_ok=True)
-    (crate / name).write_text(f"{CODE}\n")
+    (crate / name).write_text(f"{CODE}\nanother line\n")
+    assert edits.record(crate, "rattle-kit-1 logic 0f") != before
+
+
+def test_an_import_and_a_comment_make_no_record_old(crate: Path, two: list[Any]) -> None:
+    # Catches: all mutations tried again where proofs only import names from elsewhere, or a comment has another word.
+    proof = crate / "proofs" / "parts" / "first" / "Answers.antt"
+    proof.parent.mkdir(parents=True, exist_ok=True)
+    proof.write_text("use A.B.{c}\n\nreturns = c\n")
+    before = edits.record(crate, "rattle-kit-1 logic 0f")
+    (crate / "proofs" / "Face.antt").write_text("-- What others cite.\npub use A.B.{c}\n")
+    proof.write_text("-- It returns.\nuse A.Face.{c, d}\nreturns = c\n")
+    (crate / "src" / "parts.rt").write_text(f"//! Parts.\n\n{(crate / 'src' / 'parts.rt').read_text()}")
+    assert edits.record(crate, "rattle-kit-1 logic 0f") == before
+    proof.write_text("use A.Face.{c, d}\nreturns = d\n")
     assert edits.record(crate, "rattle-kit-1 logic 0f") != before

@@ -28,17 +28,18 @@ PLANTED = [
         "",
         "use Rattle.council_core.specs.Coalitions.{omega_of as eta_of, eta_of as omega_of}\n",
     ),
+    ("a lemma behind a crate's Face", "board_runs/proofs/Lib.antt", "", "use Rattle.half_sums.proofs.SetSums.{a}\n"),
 ]
 
 
 @pytest.fixture(scope="module")
 def copied(tmp_path_factory: pytest.TempPathFactory) -> Path:
-    """The sources and the definitions of all crates, and the tools."""
+    """The sources, definitions and proofs of all crates, and the tools."""
     folder = tmp_path_factory.mktemp("lint")
     shutil.copytree(TOP / "tools", folder / "tools")
     shutil.copy(TOP / "crates.txt", folder)
     for crate in (TOP / "crates").iterdir():
-        for part in ("src", "specs"):
+        for part in ("src", "specs", "proofs"):
             if (crate / part).exists():
                 shutil.copytree(crate / part, folder / "crates" / crate.name / part)
     return folder

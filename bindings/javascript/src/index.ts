@@ -20,7 +20,7 @@ export {
   indicesOfMany,
   indicesOfManyInWorkers,
   indicesOfMembers,
-  type ChairIndices,
+  type Chair,
   type Indices,
   type Weights,
 } from "./indices.js";

@@ -9,7 +9,7 @@ import { isList, isWhole, items, majorityNumber, options, shown, whole, wrongTyp
 import { inWorker, processors } from "./worker.js";
 
 /** An open chair and its voting power. */
-export interface ChairIndices {
+export interface Chair {
   /** Its number, from 1 to 32. */
   readonly chair: number;
   /** Its name, if the chairs of the board have names; null if it has none. */
@@ -46,7 +46,7 @@ export interface Indices {
   /** Coleman's power of the board to act: omega over coalitions. */
   readonly act: Fraction;
   /** The open chairs by number. */
-  readonly chairs: readonly ChairIndices[];
+  readonly chairs: readonly Chair[];
 }
 
 /** The names of chairs by their numbers. */
@@ -66,7 +66,7 @@ export function indicesIn(
   const [open, omega, coalitions] = [wordAt(4), wordAt(5), wordAt(6)];
   let all = 0;
   for (let row = 0; row < open; row++) all += wordAt(9 + 3 * row);
-  const chairs = Array.from({ length: open }, (_, row): ChairIndices => {
+  const chairs = Array.from({ length: open }, (_, row): Chair => {
     const [chair, weight, swings] = [wordAt(7 + 3 * row), wordAt(8 + 3 * row), wordAt(9 + 3 * row)];
     return {
       chair,

@@ -1,7 +1,7 @@
 #!/usr/bin/env node
 /** The program `voting-board replay`, which prints what `board replay` prints. */
 import {
-  VERSION, Refused, replay, type ChairIndices, type Fault, type Outcome, type Reading, type ReplayOptions,
+  VERSION, Refused, replay, type Chair, type Fault, type Outcome, type Reading, type ReplayOptions,
 } from "voting-board";
 import { INPUT_BYTES } from "./names.js";
 import { builtin } from "./node.js";
@@ -94,7 +94,7 @@ function print(text: string): void {
 /** A fraction as `board replay` prints it, not reduced. */
 const fraction = (over: number, under: number): string => (under === 0 ? "-" : `${over}/${under}`);
 
-function chairLine({ chair, weight, swings }: ChairIndices, { omega, coalitions }: Reading, all: number): string {
+function chairLine({ chair, weight, swings }: Chair, { omega, coalitions }: Reading, all: number): string {
   const under = [coalitions / 2, all, omega, coalitions - omega];
   return `chair,${chair},${weight},${swings},${under.map((it) => fraction(swings, it)).join()}\n`;
 }
@@ -109,7 +109,7 @@ function readingLines(it: Reading): string {
 
 /** Makes the lines of outcomes. Readings of the same board share their chairs, and so their lines. */
 class Lines {
-  readonly #made = new WeakMap<readonly ChairIndices[], string>();
+  readonly #made = new WeakMap<readonly Chair[], string>();
 
   of(it: Outcome): string {
     if (it.kind === "refused") return `refused,${it.number},${it.name}\n`;

@@ -43,7 +43,7 @@ CHANGES: dict[str, Callable[[Register, str], object]] = {
 }
 OTHERS: dict[str, Callable[[Register], Register]] = {
     "copy": lambda it: it.what_if(),
-    "save": lambda it: Register.from_script(it.script(), names=it.names),
+    "save": lambda it: Register.from_script(it.script(), names=it.chair_names),
     "keep": lambda it: kept(it),
 }
 
@@ -54,7 +54,7 @@ def kept(register: Register) -> Register:
 
 
 def state(register: Register) -> object:
-    return register.script(), register.names, named(register.indices("half")), named(register.read("half"))
+    return register.script(), register.chair_names, named(register.indices("half")), named(register.read("half"))
 
 
 @pytest.mark.parametrize("steps", cases().values(), ids=cases())
@@ -75,7 +75,7 @@ def test_table(steps: list[str]) -> None:
             other = OTHERS[kind](register)
             before, register = (register, state(register)) if kind == "copy" else before, other
         elif kind == "names":
-            assert register.names == names_in(given), step
+            assert register.chair_names == names_in(given), step
             for found in (register.indices("half"), register.indices_of_all()["85"]):
                 assert named(found) == names_in(given), step
         elif kind == "read":
@@ -93,15 +93,15 @@ def test_copies(copied: Callable[[Register], Register]) -> None:
     other = copied(register)
     other.rename(1, "South")
     register.undo(3)
-    assert (other.names, register.names) == ({1: "South"}, {1: "North"})
-    assert (other.undo(3), other.names) == (3, {1: "North"})
+    assert (other.chair_names, register.chair_names) == ({1: "South"}, {1: "North"})
+    assert (other.undo(3), other.chair_names) == (3, {1: "North"})
 
 
 def test_pickles_of_before() -> None:
     # Catches: a pickle of version 0.10 that can't be read. It has the names by chair, and the call that reads them.
     script = Register([{"code": "AAA", "votes": 5, "chair": 4}]).script() + "open,7\n"
     register = restored(Register, script, 1000, {4: "North", 9: "gone"})
-    assert (register.names, register.undo(0), register.names) == ({4: "North"}, 0, {})
+    assert (register.chair_names, register.undo(0), register.chair_names) == ({4: "North"}, 0, {})
 
 
 def test_values() -> None:
@@ -132,5 +132,5 @@ def test_many_changes() -> None:
             opened.add(chair)
             expected.update({chair: name} if name else {})
         if number % 5 == 0:
-            assert register.names == {1: "North", **expected}
-    assert Register.from_script(register.script(), names=register.names).names == register.names
+            assert register.chair_names == {1: "North", **expected}
+    assert Register.from_script(register.script(), names=register.chair_names).chair_names == register.chair_names

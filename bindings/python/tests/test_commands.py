@@ -134,6 +134,37 @@ def test_saved_study(table: Path, tmp_path: Path) -> None:
     assert done.returncode == 1 and b"the votes below add up to 90, and the published total is 91" in done.stderr
 
 
+def test_second_table(table: Path, tmp_path: Path) -> None:
+    # Catches: two tables with one name that are one scenario, a sentence that isn't said, and a study whose second
+    # table is no longer there when it is read again.
+    years = [tmp_path / "2030.csv", tmp_path / "other" / "2030.csv"]
+    years[1].parent.mkdir()
+    years[0].write_text(TABLE.replace("AAA,</script>,40", "AAA,</script>,45").replace("B #2", "Second"))
+    years[1].write_text(TABLE.replace("DDD,D,9,,", "EEE,E,7,3,East"))
+    good("study", table, "--at=85", *(f"--compare={it}" for it in years), tmp_path / "out")
+    lines = (tmp_path / "out.csv").read_text().splitlines()
+    for path in years:
+        assert f"# second table 2030.csv sha256 {sha256(path.read_bytes()).hexdigest()}" in lines
+    assert any("2030 2 is another table as changes" in it and "new: EEE E; gone: DDD D" in it for it in lines)
+    assert any("No change says another name of a member" in it and "B #2 is Second" in it for it in lines)
+    data = (tmp_path / "out.html").read_text().partition(START)[2].partition("</script>")[0]
+    first, second = json.loads(data)["study"]["scenarios"]
+    assert first["name"] == "2030" and [it["what"]["kind"] for it in first["changes"]] == ["votes"]
+    assert [(it["what"]["kind"], it.get("name"), it.get("chairName")) for it in second["changes"]] == [
+        ("withdraw", None, None),
+        ("open", None, "East"),
+        ("admit", "E", None),
+        ("move", "E", None),
+    ]
+    good("study", tmp_path / "out.html", "--at=85", tmp_path / "again")
+    assert [it for it in (tmp_path / "again.csv").read_text().splitlines() if it[:2] != "# "] == [
+        it for it in lines if it[:2] != "# "
+    ]
+    years[0].write_text("code,votes\n")
+    done = ran("study", table, f"--compare={years[0]}", tmp_path / "out")
+    assert done.returncode == 1 and b"2030.csv: row 1: no column 'chair'" in done.stderr
+
+
 @pytest.mark.parametrize(
     "words, said",
     [

@@ -1,7 +1,8 @@
 """Arrays of numpy, tables of pandas and charts of matplotlib."""
 from __future__ import annotations
 
-import time
+import sys
+from collections.abc import Callable
 from fractions import Fraction
 from pathlib import Path
 from typing import Any
@@ -175,14 +176,23 @@ def test_many_as_a_table() -> None:
     assert many.share.dtype == "float64" and many.share.shape == (2, 2, 2) and many.act.shape == (2, 2)
 
 
-def test_frame_of_many_costs_less_than_its_counts() -> None:
-    # Catches: a frame that is made row by row. It compares times of the processor in one run.
+def calls_in(act: Callable[[], object]) -> int:
+    """How many functions in Python a call runs."""
+    events = list[str]()
+    sys.setprofile(lambda _frame, event, _argument: events.append(event))
+    try:
+        act()
+    finally:
+        sys.setprofile(None)
+    return events.count("call")
+
+
+def test_frame_of_many_is_made_by_columns() -> None:
+    # Catches: a frame that is made row by row, which takes longer than its counts.
     rows = numpy.random.default_rng(1).integers(1, 400_000, (2000, 24))
-    start = time.process_time()
-    many = indices_of_many(rows, ["85"], processors=1)
-    counted = time.process_time()
+    few, many = indices_of_many(rows[:20], ["85"]), indices_of_many(rows, ["85"], processors=1)
     table = many.to_dataframe()
-    assert time.process_time() - counted < counted - start
+    assert calls_in(many.to_dataframe) < 2 * calls_in(few.to_dataframe)
     one = many[1999]["85"].to_dataframe(floats=True)
     pandas.testing.assert_frame_equal(table[-24:][one.columns].reset_index(drop=True), one)
     repeated = indices_of_many([[2, 1], [1]], ["half", "85", "half"])

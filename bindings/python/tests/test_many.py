@@ -4,12 +4,12 @@ from __future__ import annotations
 import pickle
 import signal
 import threading
-import time
 from typing import Any
 
 import pytest
 
 from voting_board import MAJORITIES, Majority, ManyIndices, indices, indices_of_all, indices_of_many
+from voting_board.many import Job
 from voting_board.results import INDEX_NAMES
 
 ROWS = [[50, 49, 1], [5, 5], [], [0, 0, 0, 7]]
@@ -106,14 +106,20 @@ def test_results_are_immutable() -> None:
         many.total[0] = 5
 
 
-def test_interrupt() -> None:
+def test_interrupt(monkeypatch: pytest.MonkeyPatch) -> None:
     # Catches: a call that Ctrl-C doesn't end, which takes two minutes of the processors.
     rows = [[2**43 - at - chair for chair in range(32)] for at in range(20_000)]
+    count, done = Job.count, list[int]()
+
+    def counted(job: Job, boards: range) -> None:
+        done.append(len(boards))
+        count(job, boards)
+
+    monkeypatch.setattr(Job, "count", counted)
     threading.Timer(0.7, signal.raise_signal, [signal.SIGINT]).start()
-    start = time.process_time()
     with pytest.raises(KeyboardInterrupt):
         indices_of_many(rows, MAJORITIES, processors=2)
-    assert time.process_time() - start < 30
+    assert sum(done) < len(rows) / 2
 
 
 def test_majorities_that_are_left_out() -> None:

@@ -25,7 +25,7 @@ def opened() -> Register:
 def state(register: Register) -> tuple[object, ...]:
     """All that can be seen of a register."""
     seen = register.members, register.chairs, register.journal, register.published, register.opening
-    return (*seen, register.names, register.indices_of_all(), register.read("85"), repr(register))
+    return (*seen, register.chair_names, register.indices_of_all(), register.read("85"), repr(register))
 
 
 def test_answers() -> None:

@@ -37,8 +37,9 @@ def case_of(file: str, text: str) -> Case:
 
 
 def corpus() -> list[Case]:
+    """The cases that are texts: a workbook can't be a strict table."""
     texts = [(it.name, f"\n{it.read_text()}".split("\n== ")[1:]) for it in sorted(CASES.glob("*.txt"))]
-    return [case_of(name, text) for name, all_of in texts for text in all_of]
+    return [case_of(name, text) for name, all_of in texts for text in all_of if "\n-- table\n" in text]
 
 
 def rows_of(table: StrictTable) -> list[str]:

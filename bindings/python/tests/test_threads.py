@@ -83,22 +83,20 @@ def test_interrupts_of_a_register() -> None:
 def test_interrupt_of_a_long_list(seconds: float) -> None:
     # Catches: a list of which a part is carried out.
     register = Register({"AAA": 1})
-    start = time.process_time()
     with pytest.raises(Interrupt), interrupted(seconds, stop):
         register.submit("open,1\nclose,1\n" * 400_000)
-    assert time.process_time() - start < seconds + 1 and register.accepted == 0
+    assert register.accepted == 0
     assert register.open(1) == 1
 
 
 def test_interrupt_of_a_replay() -> None:
     # Catches: Ctrl-C that comes 23 seconds late.
     records = "".join(f"votes,AAA,{at}\npublish\nread,1,quorum\n" for at in range(20_000))
-    run = replay(f"member,votes\nAAA,1\nscript\n{CHAIRS}{records}")
-    start = time.process_time()
+    run, seen = replay(f"member,votes\nAAA,1\nscript\n{CHAIRS}{records}"), 0
     with pytest.raises(Interrupt), interrupted(0.5, stop):
         for _ in run:
-            pass
-    assert time.process_time() - start < 1.5
+            seen += 1
+    assert seen < 30_000
 
 
 def test_a_handler_that_uses_the_register() -> None:
@@ -133,7 +131,7 @@ def is_refused(call: Callable[[Register], object]) -> bool:
     register = Register({"AAA": 1})
     with ThreadPoolExecutor(1) as pool:
         running = pool.submit(register.submit, "open,1\nclose,1\n" * 200_000)
-        while repr(register) != "Register(another thread is using it)" and not running.done():
+        while repr(register) != "Register(another thread is using this register)" and not running.done():
             pass
         try:
             call(register)

@@ -304,7 +304,7 @@ def test_chair_names() -> None:
     table: dict[str, Any] = {"code": ["AAA", "BBB", "CCC"], "votes": [5, 4, 1], "chair": [2, 2, 7]}
     named = table | {"chair_name": ["Hills", None, "Lakes"]}
     register = Register(named)
-    assert register.names == {2: "Hills", 7: "Lakes"}
+    assert register.chair_names == {2: "Hills", 7: "Lakes"}
     for board in (
         register.indices("half"),
         register.read("half"),

@@ -1,5 +1,5 @@
 -- What an input contains, by the start of its script.
-use Rattle.std.proofs.Common.{◌≡◌, ◌⊎◌, inl, inr, ◌≤◌, ◌<◌, ◌+◌, ◌&&◌, ℕ, Bool, true, false, IfOk, if◌then◌else◌, List, [], ◌∷◌, length, map, nat_le, Option, Some, Result, Ok, Err, refl, sym, ap, ◌∙◌, subst}
+use Rattle.std.proofs.Common.{◌≡◌, ◌⊎◌, inl, inr, ◌≤◌, ◌<◌, ◌&&◌, ℕ, Bool, true, false, IfOk, if◌then◌else◌, List, [], length, map, nat_le, Option, Result, Ok, Err, refl, sym, ap, ◌∙◌, subst}
 use Rattle.std.proofs.lemmas.Bool.{le-leb, lt-leb}
 use Rattle.board_c.specs.Spans.{SpansItsLine, input_rows}
 use Rattle.board_c.specs.Items.{without_span}
@@ -10,52 +10,35 @@ use Rattle.council_core.specs.declared.refusals.Refusal.{Refusal}
 use Rattle.council_core.specs.declared.refusals.Refusal.TheVariants.{BadLimit, TooLong}
 use Rattle.board_text.specs.Output.{Fails, ReadTo}
 use Rattle.board_text.specs.Requests.{Row}
-use Rattle.board_text.specs.Scripts.{Course, started_course, course_of_script, course_step, script_course, turn_of}
-use Rattle.board_text.specs.Text.{Started, Opened, started_of, fault_at, in_range, ledger_at_start, opened_of, started_after, started_with}
+use Rattle.board_text.specs.Scripts.{started_course, course_of_script}
+use Rattle.board_text.specs.Text.{Started, Opened, started_of, fault_at, in_range, ledger_at_start, opened_of, request_within, started_after, started_with}
 use Rattle.board_text.specs.declared.bounds.Limits.{Limits}
 use Rattle.board_text.specs.declared.faults.Fault.{Fault}
-use Rattle.board_text.specs.declared.requests.Request.{Request}
 use Rattle.board_text.specs.declared.stops.Stop.{Stop}
 use Rattle.board_text.specs.declared.stops.Stop.TheVariants as stop
-use Rattle.board_runs.specs.Replays.{replay_start, replay_step, reply_to, run_of}
-use Rattle.board_c.specs.Contents.{fault_from, fault_or, items_started, items_from, items_of, members_of}
+use Rattle.board_runs.specs.Replays.{replay_effect, replay_start, run_of}
+use Rattle.board_c.specs.Contents.{end_from, items_started, items_from, items_of, members_of}
 use Rattle.board_text.specs.Text.{members_in}
 use Rattle.board_c.specs.Written.{ChecksOpening, EndsReading, IsPartOfInput, IsWholeInput, ReadItems, end_of}
 use Rattle.board_c.specs.Ends.{answer_of, record_of}
 use Rattle.board_c.specs.declared.script.items.BoardItem.{BoardItem}
-use Rattle.board_text.proofs.MemberFacts.{members-opened}
+use Rattle.board_text.proofs.Face.{front-none, front-whole, members-opened}
 use Rattle.board_text.specs.declared.input.TheConstants.{INPUT_LIMIT}
 use Rattle.std.specs.Bool.{⊤}
 use Rattle.std.specs.Result.{result_err}
-use Rattle.board_text.proofs.MemberFacts.{front-none, front-whole}
 use Rattle.board_c.proofs.ListFacts.{overlaid-none}
 use Rattle.board_c.proofs.ItemFacts.{all-none}
 
--- the fault that a replay's records meet does not depend on the register
-step-end : (s : Sequential) (k : ℕ) (r : Result Request Refusal) (more : Sequential → Course Sequential) (f : Option Fault) → ((t : Sequential) → result_err (more t).end ≡ f) → result_err (course_step k (turn_of (reply_to s) r) more).end ≡ fault_or k r f
-step-end s k (Ok q) more f rest = rest (reply_to s q).1
-step-end s k (Err why) more f rest = refl
-
-pub script-end : (lim : Limits) (s : Sequential) (k : ℕ) (rs : List Row) → result_err (script_course (replay_step lim) s k rs).end ≡ fault_from lim k rs
-unfolding script_course fault_from
-script-end lim s k [] = refl
-script-end lim s k (r ∷ rs) = step-end s k _ (λ t. script_course (replay_step lim) t (k + 1) rs) (fault_from lim (k + 1) rs) (λ t. script-end lim t (k + 1) rs)
-
 -- the fault of a start, or of its script
 abbrev pub fault_begun : Limits → Result Started Fault → Option Fault
-fault_begun lim (Err f) = Some f
-fault_begun lim (Ok b) = fault_from lim b.1 b.2
-
-run-end : (lim : Limits) (b : Result Started Fault) → result_err (started_course (course_of_script replay_start replay_step lim) b).end ≡ fault_begun lim b
-run-end lim (Err f) = refl
-run-end lim (Ok b) = script-end lim (replay_start lim b.0) b.1 b.2
+fault_begun lim b = result_err (started_course (course_of_script replay_start request_within replay_effect lim) b).end
 
 module _ (lim : Limits) (bytes : List ℕ) where
   pub items-by : (b : Result Started Fault) → started_of lim bytes ≡ b → items_of lim bytes ≡ items_started lim b
   items-by b e = ap (items_started lim) e
 
   pub end-by : (b : Result Started Fault) → started_of lim bytes ≡ b → (run_of lim bytes).end ≡ fault_begun lim b
-  end-by b e = run-end lim (started_of lim bytes) ∙ ap (fault_begun lim) e
+  end-by b e = ap (fault_begun lim) e
 
   -- limits out of range
   pub begun-out_of_range : in_range lim ≡ false → started_of lim bytes ≡ Err (fault_at BadLimit 0)
@@ -148,8 +131,8 @@ module _ (lim : Limits) (bytes : List ℕ) where
       pub script-items : start_verdict members lim.journal ≡ Ok tt → items_of lim bytes ≡ items_from lim n left
       script-items verdict = items-by lim bytes _ (begun-script lim bytes fits short members n left now-opened verdict)
 
-      pub script-fault : start_verdict members lim.journal ≡ Ok tt → (run_of lim bytes).end ≡ fault_from lim n left
-      script-fault verdict = end-by lim bytes _ (begun-script lim bytes fits short members n left now-opened verdict)
+      pub script-end : {T : Type 0} (r : Result T Stop) → start_verdict members lim.journal ≡ Ok tt → ((s : Sequential) → EndsReading r (end_from lim n s left)) → EndsReading r (run_of lim bytes).end
+      script-end r verdict ends = rw (end-by lim bytes _ (begun-script lim bytes fits short members n left now-opened verdict)) (ends (replay_start lim (ledger_at_start lim members)))
 
     -- all members were read
     pub members-read : (r : Result (Unit {0}) Stop) (got : Opening) → got ≡ members_in script → ReadTo r got (members_of lim bytes)

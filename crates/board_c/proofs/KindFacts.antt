@@ -2,7 +2,7 @@
 use Rattle.std.proofs.Common.{◌≡◌, ℕ, List, Some, IsTrue}
 use Rattle.board_text.specs.declared.bounds.Limits.{Limits}
 use Rattle.board_text.specs.declared.faults.Fault.{Fault}
-use Rattle.board_runs.proofs.EndFacts.{is_of_input, run-ends, trace-ends}
+use Rattle.board_runs.proofs.Face.{is_of_input, run-ends, trace-ends}
 use Rattle.board_c.specs.Kinds.{run_as}
 use Rattle.board_c.specs.declared.runs.kinds.Kind.{Kind}
 use Rattle.board_c.specs.declared.runs.kinds.Kind.TheVariants as kind

@@ -12,7 +12,7 @@ use Rattle.csv.specs.declared.parser.Action.{Action}
 use Rattle.csv.specs.declared.parser.Action.TheVariants as act
 use Rattle.board_c.specs.Spans.{is_in_line, is_line_end, is_one_line}
 use Rattle.board_c.specs.TextLines.{is_plain}
-use Rattle.board_text.proofs.ScriptFacts.{same-records}
+use Rattle.board_text.proofs.Face.{same-records}
 
 pub and-left : (a b : Bool) → (a && b) ≡ true → a ≡ true
 and-left true b e = refl

@@ -21,7 +21,7 @@ use Rattle.majority_rule.specs.Majorities.{majority_of}
 use Rattle.board_text.specs.declared.bounds.Limits.{Limits}
 use Rattle.board_text.specs.declared.faults.Fault.{Fault}
 use Rattle.board_text.specs.declared.requests.Request.{Request}
-use Rattle.board_text.proofs.OpeningFacts.{opening-bad, opening-ends, opening-full, opening-mark, opening-member, opening-starts, opening_after}
+use Rattle.board_text.proofs.Face.{opening-bad, opening-ends, opening-full, opening-mark, opening-member, opening-starts, opening_after}
 use Rattle.board_c.specs.Spans.{is_in_line, is_one_line, input_rows}
 use Rattle.board_c.specs.TextLines.{IsLeft, is_plain}
 use Rattle.board_c.proofs.LineFacts.{and-left, and-right}

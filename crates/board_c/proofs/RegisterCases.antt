@@ -2,19 +2,17 @@
 use Rattle.std.proofs.Common.{◌≡◌, ℕ, List, [], ◌∷◌, None, Some, Ok, Err, inl, inr, ⊎_elim, refl, ap, arith, length, get_or, ◌∙◌, ◌⊎◌, Option}
 use Rattle.std.specs.Option.{option_map_or}
 use denote.RawPtr.{null_ptr}
-use Rattle.council_core.specs.Ledgers.{sheet_of}
 use Rattle.council_core.specs.Refusals.{code_of}
 use Rattle.council_core.specs.Sequential.{Sequential}
 use Rattle.council_core.specs.declared.commands.Command.TheVariants.{Open}
-use Rattle.council_core.specs.declared.refusals.Refusal.TheVariants.{BadChair, ChairNotOpen, ChairOpen, JournalFull, NoRegister, OutOfMemory}
+use Rattle.council_core.specs.declared.refusals.Refusal.TheVariants.{BadChair, BadIndex, BadRecord, ChairNotOpen, ChairOpen, JournalFull, NoRegister, OutOfMemory}
 use Rattle.council_core.specs.declared.commands.Command.{Command}
 use Rattle.council_core.specs.declared.refusals.Refusal.{Refusal}
 use Rattle.c_values.specs.Given.{command_with, given_opening}
-use Rattle.c_values.specs.declared.counts.BoardCounts.{BoardCounts}
 use Rattle.c_values.specs.declared.commands.BoardCommand.{BoardCommand}
 use Rattle.c_values.specs.declared.entries.BoardEntry.{BoardEntry}
 use Rattle.board_c.specs.declared.TheConstants.{DONE}
-use Rattle.board_c.specs.Calls.{AcceptsAs, Answers, AnswersCopy, AnswersWith, Begins, HasAccepted, IsCopied, IsRefusedStart, IsStarted, OfRegister, WritesAt, WritesCommand, WritesCounts, all_published, opening_entry, reply_number, register_in, reply, row_at, start_reply}
+use Rattle.board_c.specs.Calls.{AcceptsAs, Answers, AnswersCopy, Begins, HasAccepted, IsCopied, IsRefusedStart, IsStarted, IsStructOf, Sets, all_published, at_index, by_majority, command_at, live_register, opening_entry, reply_number, register_in, reply, row_at, start_reply}
 use Rattle.board_c.specs.declared.register.handles.BoardRegister.{BoardRegister}
 
 -- the answer of a call that is not refused
@@ -47,9 +45,12 @@ pub replies : (reply (handle 0) (command 0 33) ≡ Err NoRegister) × (reply (ha
     × (reply (handle 1) (command 0 3) ≡ Err JournalFull) × (reply_number (reply (handle 0) (command 0 1)) ≡ 34)
 replies = (refl, refl, refl, refl, refl, refl)
 
--- no refusal is answered by 10, nor by 0
+-- no refusal is answered by 10, nor by 0, and Ok by no other number
 pub not_out_of_memory : (Answers (Err ChairOpen) 10 → ⊥) × (Answers (Err ChairOpen) 0 → ⊥) × Answers (Ok tt) 10
 not_out_of_memory = ((λ e. omega (arith, e)), (λ e. omega (arith, e)), inr refl)
+
+pub accepted_by_number : Answers (Ok tt) 0 × (Answers (Ok tt) 11 → ⊥)
+accepted_by_number = (inl refl, ⊎_elim (λ e. omega (arith, e)) (λ e. omega (arith, e)))
 
 -- member 0 sits nowhere, and there is no member 1
 pub rows : ((r : _) → row_at small 0 ≡ Some r → r.votes ≡ 10) × (row_at small 1 ≡ None) × (opening_entry small 1 ≡ None)
@@ -69,22 +70,33 @@ copies = (
   (λ e. omega (arith, e)),
 )
 
+-- a copy that could be made is answered by 0, and else by 10
+pub copy_answered : AnswersCopy (Some small) 0 × AnswersCopy (Some small) 10 × (AnswersCopy (Some small) 34 → ⊥)
+copy_answered = (inl refl, inr refl, ⊎_elim (λ e. omega (arith, e)) (λ e. omega (arith, e)))
+
 -- a publication publishes both commands, and changes nothing else
 pub both_published : all_published small ≡ record { ledger = small.ledger; published = 2 }
 both_published = refl
 
--- what isn't there isn't written
-pub nothing_written : (WritesCommand None 0 (command 0 1) (command 0 1) → ⊥) × (OfRegister {A = ℕ} None 0 0 0 (λ s. Unit {0}) → ⊥)
-    × (OfRegister {A = ℕ} None 34 5 6 (λ s. Unit {0}) → ⊥) × (WritesAt {A = ℕ} None 35 5 6 → ⊥)
-nothing_written = ((λ e. omega (arith, e.0)), (λ e. omega (arith, e.0)), (λ e. omega (arith, e.1)), (λ e. omega (arith, e.1)))
+-- what is found in a handle: its register, what that has at an index, and it again for the number of a majority
+pub found : (live_register (handle 0) ≡ Err NoRegister) × (live_register (handle 1) ≡ Ok small) × (at_index command_at 0 (live_register (handle 0)) ≡ Err NoRegister)
+    × (at_index command_at 2 (Ok small) ≡ Err BadIndex) × (at_index command_at 1 (Ok small) ≡ Ok (Open 2)) × (by_majority 4 (live_register (handle 0)) ≡ Err NoRegister)
+    × (by_majority 4 (Ok small) ≡ Err BadRecord) × (by_majority 3 (Ok small) ≡ Ok small)
+found = (refl, refl, refl, refl, refl, refl, refl, refl)
 
--- parts that a command doesn't have are written as 0
-pub parts : WritesCommand (Some (Open 1)) 0 (command 0 2) (command_with 0 no_code 1 7) → ⊥
-parts e = let votes : 7 ≡ 0 = ap (λ (c : BoardCommand). c.votes) e.1 in omega (arith, votes)
+-- a refusal is answered by its number, and leaves what was there
+pub refused : Sets {A = ℕ} {B = ℕ} (Err BadIndex) 35 5 5 (λ n. n ≡ 7) × (Sets {A = ℕ} {B = ℕ} (Err BadIndex) 0 5 5 (λ n. n ≡ 7) → ⊥)
+    × (Sets {A = ℕ} {B = ℕ} (Err BadIndex) 35 5 6 (λ n. n ≡ 7) → ⊥)
+refused = ((refl, refl), (λ e. omega (arith, e.0)), (λ e. omega (arith, e.1)))
 
--- an index without an item writes nothing, and one with an item writes it
-pub indices : (WritesAt {A = ℕ} None 0 5 5 → ⊥) × (WritesAt {A = ℕ} (Some 7) 0 5 5 → ⊥) × (AnswersWith {A = ℕ} 7 0 5 → ⊥)
-indices = ((λ e. omega (arith, e.0)), (λ e. omega (arith, e.1)), (λ e. omega (arith, e.1)))
+-- what is found is answered by 0, and what is written is of it
+pub written : Sets {A = ℕ} {B = ℕ} (Ok 7) 0 5 7 (λ n. n ≡ 7) × (Sets {A = ℕ} {B = ℕ} (Ok 7) 35 5 7 (λ n. n ≡ 7) → ⊥)
+    × (Sets {A = ℕ} {B = ℕ} (Ok 8) 0 5 7 (λ n. n ≡ 7) → ⊥)
+written = ((refl, refl), (λ e. omega (arith, e.0)), (λ e. omega (arith, e.1)))
+
+-- a struct of a command has 0 in the parts that the command doesn't have, and gives the command; chair 33 would be none
+pub structs : IsStructOf (Open 1) (command 0 1) × (IsStructOf (Open 1) (command_with 0 no_code 1 7) → ⊥) × (IsStructOf (Open 33) (command 0 33) → ⊥)
+structs = ((refl, refl), (λ e. let votes : 7 ≡ 0 = ap (λ (c : BoardCommand). c.votes) e.0 in omega (arith, votes)), (λ e. cc e.1))
 
 -- a register with another accepted command, or without the command, has not accepted this one
 abbrev with_third : Command → Sequential
@@ -114,32 +126,6 @@ not_at_start = (
     refused why zero (inl memory) = let at : 0 ≡ 10 = zero ∙ ap code_of memory in omega (arith, at)
     refused why zero (inr reply) = cc reply
 
--- nothing is counted by a number of no majority
-pub no_majority : (counts : BoardCounts) → WritesCounts 4 (sheet_of small.ledger) 0 counts counts → ⊥
-no_majority counts (inl h) = let known : None ≡ Some h.1.majority = h.1.known in cc known
-no_majority counts (inr h) = omega (arith, h.0)
-
--- an index without an item leaves what was there, and one with an item is answered by 0
-pub not_answered : (WritesAt {A = ℕ} (Some 7) 35 5 7 → ⊥) × (AnswersWith {A = ℕ} 7 35 7 → ⊥)
-not_answered = ((λ e. omega (arith, e.0)), (λ e. omega (arith, e.0)))
-
--- so is a command, which the struct written gives back; chair 33 would be none
-pub command_kept : WritesCommand None 35 (command 0 1) (command 0 2) → ⊥
-command_kept e = let chair : 2 ≡ 1 = ap (λ (c : BoardCommand). c.chair) e.1 in omega (arith, chair)
-
-pub command_answered : (WritesCommand (Some (Open 1)) 0 (command 0 2) (command 0 1)) × (WritesCommand (Some (Open 1)) 35 (command 0 2) (command 0 1) → ⊥)
-    × (WritesCommand (Some (Open 33)) 0 (command 0 2) (command 0 33) → ⊥)
-command_answered = ((refl, refl, refl), (λ e. omega (arith, e.0)), (λ e. cc e.2))
-
--- counts are answered by 0, and by 17 only at the number of no majority, which leaves what was there
-pub counts_answered : (words : List ℕ) (old new : BoardCounts)
-    → (WritesCounts 0 words 5 old new → ⊥) × (WritesCounts 0 words 17 old new → ⊥) × (WritesCounts 4 words 17 old new → new ≡ old)
-counts_answered words old new = (
-  ⊎_elim (λ h. omega (arith, h.0)) (λ h. omega (arith, h.0)),
-  ⊎_elim (λ h. omega (arith, h.0)) (λ h. cc h.1),
-  ⊎_elim (λ h. let at : 17 ≡ 0 = h.0 in absurd (omega (arith, at))) (λ h. h.2),
-)
-
 -- a start over no members, and over a member with 5 votes: the register has that member and no other
 pub started : IsStarted [] 2 (record { at = null_ptr; state = 1; register = record { ledger = record { opening = []; journal = []; limit = 2 }; published = 0 } })
 started = (record { ledger = record { opening = []; journal = []; limit = 2 }; published = 0 }, refl, ([], refl, refl, refl))
@@ -149,6 +135,17 @@ same_opening s h =
     let given : Ok ((65 ∷ 65 ∷ 65 ∷ [], 5) ∷ []) ≡ Ok h.0 = h.1 in
     let opening : h.0 ≡ (65 ∷ 65 ∷ 65 ∷ [], 5) ∷ [] = cc given in
     ap (λ (l : Sequential). l.ledger.opening) h.3 ∙ opening
+
+-- it has the limit that was given, and nothing of it is published
+abbrev begun : ℕ → ℕ → Sequential
+begun limit published = record { ledger = record { opening = []; journal = []; limit = limit }; published = published }
+
+pub begun_as_given : Begins [] 2 (begun 2 0) × (Begins [] 2 (begun 3 0) → ⊥) × (Begins [] 2 (begun 2 1) → ⊥)
+begun_as_given = (
+  ([], refl, refl, refl),
+  (λ h. let limit : 3 ≡ 2 = ap (λ (s : Sequential). s.ledger.limit) h.3 in omega (arith, limit)),
+  (λ h. let published : 1 ≡ 0 = ap (λ (s : Sequential). s.published) h.3 in omega (arith, published)),
+)
 
 -- no register begins with room for no command
 pub no_limit : (entries : List BoardEntry) (s : Sequential) → Begins entries 0 s → ⊥
@@ -160,6 +157,10 @@ handle_with state s = record { at = null_ptr; state = state; register = s }
 
 pub third : AcceptsAs small (with_third (Open 3)) (command 0 3) 3 × (AcceptsAs small (with_third (Open 3)) (command 0 3) 2 → ⊥)
 third = ((Open 3, refl, refl, refl), (λ h. omega (arith, h.3)))
+
+-- it is not published
+pub not_published : AcceptsAs small (record (with_third (Open 3)) { published = 2 }) (command 0 3) 3 → ⊥
+not_published h = let published : 2 ≡ 1 = ap (λ (s : Sequential). s.published) h.2 in omega (arith, published)
 
 pub accepted : HasAccepted (handle 1) (handle_with 1 (with_third (Open 3))) (command 0 3) 3
 accepted = (with_third (Open 3), refl, refl, (Open 3, refl, refl, refl))

@@ -8,9 +8,7 @@ use Rattle.std.proofs.lemmas.Bool.{eqb-true}
 use Rattle.std.proofs.lemmas.List.FromFn.{get_or-map-range_with_len}
 use Rattle.council_core.specs.declared.limits.TheConstants.{MAX_TOTAL}
 use Rattle.council_core.specs.Sheets.{IsSheet}
-use Rattle.council_core.proofs.AssembleLemmas.{IsSheet-made}
-use Rattle.council_core.proofs.RegisterLemmas.{weight_within}
-use Rattle.council_core.proofs.SheetOfLemmas.{cast_within}
+use Rattle.council_core.proofs.Face.{cast_within, IsSheet-made, weight_within}
 use Rattle.council_core.specs.declared.commands.Standing.{Standing}
 use Rattle.council_core.specs.Rolls.{RollEntry, Roll, chair_numbers, chair_word, effective_votes, is_open, total, votes_in, weight, sheet_words}
 use Rattle.board_c.specs.declared.counts.members.BoardMember.{BoardMember}

@@ -4,7 +4,7 @@ use Rattle.std.specs.Prelude.{if◌then◌else◌}
 use Rattle.std.specs.Fmt.{digits}
 use Rattle.council_core.specs.Refusals.{code_of}
 use Rattle.council_core.specs.declared.refusals.Refusal.TheVariants.{BadRecord, OutOfMemory, WriteFault}
-use Rattle.two_copy_steps.specs.Lawful.{IsPrefix}
+use Rattle.board_text.specs.Output.{IsPrefixOf}
 use Rattle.board_text.specs.Lines.{LineBytes, fault_line}
 use Rattle.board_text.specs.Text.{fault_at, text_of}
 use Rattle.board_text.specs.declared.faults.Fault.{Fault}
@@ -94,7 +94,7 @@ both_length : length (text_of ((65 ∷ []) ∷ memory_line ∷ [])) ≡ 22
 unfolding digits
 both_length = refl
 
-broken_length : (front : List LineBytes) → IsPrefix front one_line.lines → 22 < length (text_of (front ++ memory_line ∷ [])) → ⊥
+broken_length : (front : List LineBytes) → IsPrefixOf front one_line.lines → 22 < length (text_of (front ++ memory_line ∷ [])) → ⊥
 broken_length [] begins long =
     let at : 22 < length (text_of (memory_line ∷ [])) = long in
     omega (arith, at, memory_length)

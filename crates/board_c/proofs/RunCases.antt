@@ -5,13 +5,13 @@ use Rattle.std.specs.Prelude.{codes}
 use Rattle.council_core.specs.Refusals.{code_of}
 use Rattle.council_core.specs.declared.refusals.Refusal.TheVariants.{BadRecord, OutOfMemory, WriteFault}
 use Rattle.board_text.specs.Text.{Run, fault_at, line_text, output, printed_run, run_limits, stopped_run, text_of}
-use Rattle.board_runs.proofs.WorkedCases.{of_the_machine, of_the_register, schedule}
+use Rattle.board_runs.proofs.Face.{of_the_machine, of_the_register, schedule}
 use Rattle.board_c.specs.Kinds.{run_as}
 use Rattle.board_c.specs.Shown.{ShowsOutOfMemory, ShowsRun}
 use Rattle.board_c.specs.declared.runs.kinds.Kind.TheVariants as kind
 use Rattle.board_c.specs.declared.TheConstants.{DONE}
 use Rattle.board_text.specs.Lines.{fault_line}
-use Rattle.board_text.proofs.RunFacts.{text-after}
+use Rattle.board_text.proofs.Face.{text-after}
 use Rattle.board_c.proofs.KindFacts.{kind-ends}
 use Rattle.board_c.proofs.TextFacts.{shows-done, shows-place}
 

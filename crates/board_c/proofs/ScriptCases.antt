@@ -1,15 +1,17 @@
 -- Items and their spans, computed on inputs; and spans that they don't have.
 use Rattle.std.proofs.Common.{◌≡◌, ℕ, List, [], ◌∷◌, Some, refl, arith}
 use Rattle.std.specs.Prelude.{codes}
+use Rattle.council_core.specs.Sequential.{Sequential}
 use Rattle.council_core.specs.declared.refusals.Refusal.TheVariants.{BadReader, BadRecord}
 use Rattle.csv.specs.Machine.{next_record}
 use Rattle.csv.specs.Reading.{records_from, strip_bom}
 use Rattle.board_text.specs.Requests.{Row}
+use Rattle.board_text.specs.Scripts.{script_course}
 use Rattle.board_text.specs.Text.{started_of, members_before, fault_at, opening_of, run_limits}
 use Rattle.c_values.specs.Given.{command_with, no_code}
 use Rattle.board_c.specs.declared.TheConstants.{DONE}
-use Rattle.board_c.specs.Contents.{fault_from, items_from, items_of, members_of}
-use Rattle.board_c.specs.Items.{item_with, only_kind}
+use Rattle.board_c.specs.Contents.{end_from, items_from, items_of, members_of}
+use Rattle.board_c.specs.Items.{item_with, only_kind, with_span}
 use Rattle.board_c.specs.Spans.{IsRecordAt}
 use Rattle.board_c.specs.Written.{overlaid}
 
@@ -17,20 +19,25 @@ use Rattle.board_c.specs.Written.{overlaid}
 done : DONE ≡ 0
 done = refl
 
--- records 4 to 9 of an input; there are two readers, so the fifth of these has a fault
+-- records 4 to 10 of an input; there are three readers, so the sixth of these has a fault
 abbrev rows : List Row
 rows = (codes "open" ∷ codes "2" ∷ []) ∷ (codes "move" ∷ codes "ABC" ∷ codes "none" ∷ []) ∷ (codes "publish" ∷ [])
-    ∷ (codes "read" ∷ codes "2" ∷ codes "85" ∷ []) ∷ (codes "read" ∷ codes "3" ∷ codes "85" ∷ []) ∷ (codes "publish" ∷ []) ∷ []
+    ∷ (codes "read" ∷ codes "3" ∷ codes "85" ∷ []) ∷ (codes "read" ∷ codes "1" ∷ codes "quorum" ∷ []) ∷ (codes "read" ∷ codes "4" ∷ codes "85" ∷ []) ∷ (codes "publish" ∷ []) ∷ []
 
-pub items : items_from (run_limits 2 10) 4 rows
+pub items : items_from (run_limits 3 10) 4 rows
     ≡ item_with 4 (command_with 0 no_code 2 0) 0 0 ∷ item_with 5 (command_with 2 (65 ∷ 66 ∷ 67 ∷ 0 ∷ []) 0 0) 0 0
-    ∷ item_with 6 (only_kind 8) 0 0 ∷ item_with 7 (only_kind 9) 2 2 ∷ []
+    ∷ item_with 6 (only_kind 8) 0 0 ∷ item_with 7 (only_kind 9) 3 2 ∷ item_with 8 (only_kind 9) 1 3 ∷ []
 unfolding items_from
 items = refl
 
-pub fault : fault_from (run_limits 2 10) 4 rows ≡ Some (fault_at BadReader 8)
-unfolding fault_from
-fault = refl
+-- each number of an item is in its own part
+pub parts_of_an_item : let item = with_span 9 11 (item_with 7 (only_kind 8) 1 3) in
+    (item.command.kind ≡ 8) × (item.number ≡ 7) × (item.reader ≡ 1) × (item.majority ≡ 3) × (item.from ≡ 9) × (item.to ≡ 11)
+parts_of_an_item = (refl, refl, refl, refl, refl, refl)
+
+pub fault : (s : Sequential) → end_from (run_limits 3 10) 4 s rows ≡ Some (fault_at BadReader 9)
+unfolding script_course
+fault s = refl
 
 -- the members before a record with a fault
 pub members : members_before ((codes "ABC" ∷ codes "7" ∷ []) ∷ (codes "abc" ∷ codes "7" ∷ []) ∷ (codes "script" ∷ []) ∷ [])
@@ -136,9 +143,9 @@ pub before_fault : items_of (run_limits 1 10) (codes "member,votes\nscript\npubl
 unfolding started_of opening_of items_from records_from strip_bom next_record
 before_fault = refl
 
-pub at_fault : fault_from (run_limits 1 10) 3 ((codes "publish" ∷ []) ∷ (codes "open" ∷ codes "33" ∷ []) ∷ (codes "publish" ∷ []) ∷ []) ≡ Some (fault_at BadRecord 4)
-unfolding fault_from
-at_fault = refl
+pub at_fault : (s : Sequential) → end_from (run_limits 1 10) 3 s ((codes "publish" ∷ []) ∷ (codes "open" ∷ codes "33" ∷ []) ∷ (codes "publish" ∷ []) ∷ []) ≡ Some (fault_at BadRecord 4)
+unfolding script_course
+at_fault s = refl
 
 -- a fault before the script: no items, but the members before it
 pub no_items : items_of (run_limits 1 10) (codes "member,votes\nAAA,1\nAAA,2\nscript\npublish") ≡ []

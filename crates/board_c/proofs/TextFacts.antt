@@ -6,7 +6,7 @@ use Rattle.council_core.specs.Refusals.{code_of}
 use Rattle.council_core.specs.declared.refusals.Refusal.TheVariants.{OutOfMemory, ReadFault, WriteFault}
 use Rattle.board_text.specs.Text.{Run, fault_at}
 use Rattle.board_text.specs.declared.faults.Fault.{Fault}
-use Rattle.board_runs.proofs.EndFacts.{is_of_input}
+use Rattle.board_runs.proofs.Face.{is_of_input}
 use Rattle.board_c.specs.Shown.{IsLonger, IsTextOf, IsWhole, ShowsRun, end_in}
 use Rattle.board_c.specs.Ends.{answer_of, record_of}
 use Rattle.board_c.specs.declared.TheConstants.{DONE}

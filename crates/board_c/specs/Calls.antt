@@ -1,5 +1,6 @@
 -- The replies of a handle's calls: those of the register's own definitions.
 use Rattle.std.specs.Prelude.{◌≡◌, ℕ, ◌==◌, ◌⊎◌, if◌then◌else◌, List, [], length, Option, None, Some, Result, Ok, Err, ⊤, slice_get, option_map}
+use Rattle.std.specs.Option.{ok_or}
 use Rattle.council_core.specs.Members.{row_of}
 use Rattle.council_core.specs.Refusals.{code_of}
 use Rattle.council_core.specs.Rolls.{Opening}
@@ -9,10 +10,9 @@ use Rattle.council_core.specs.Sequential.{Sequential}
 use Rattle.council_core.specs.declared.commands.Command.{Command}
 use Rattle.council_core.specs.declared.refusals.Refusal.{Refusal}
 use Rattle.council_core.specs.declared.refusals.Refusal.TheVariants.{BadRecord, BadIndex, NoRegister, OutOfMemory}
-use Rattle.c_values.specs.Counts.{ShowsCounts, majority_numbered}
+use Rattle.c_values.specs.Counts.{majority_numbered}
 use Rattle.c_values.specs.Given.{command_as, entry_as, given_command, given_opening, row_as}
 use Rattle.c_values.specs.declared.commands.BoardCommand.{BoardCommand}
-use Rattle.c_values.specs.declared.counts.BoardCounts.{BoardCounts}
 use Rattle.c_values.specs.declared.entries.BoardEntry.{BoardEntry}
 use Rattle.c_values.specs.declared.entries.BoardMemberRow.{BoardMemberRow}
 use Rattle.board_c.specs.Lending.{with_register}
@@ -84,30 +84,34 @@ row_at s i = option_map row_as (option_map row_of (slice_get (roll_of s.ledger).
 abbrev pub opening_entry : Sequential → ℕ → Option BoardEntry
 opening_entry s i = option_map entry_as (slice_get s.ledger.opening i)
 
--- the value is written, if there is one; or else the answer is the refusal of an index without one
-abbrev pub WritesAt : {A : Type 0} → Option A → ℕ → A → A → Type 0
-WritesAt None answer old new = (answer ≡ code_of BadIndex) × (new ≡ old)
-WritesAt (Some a) answer old new = (answer ≡ 0) × (new ≡ a)
+-- the command at this index of the journal
+abbrev pub command_at : Sequential → ℕ → Option Command
+command_at s i = slice_get s.ledger.journal i
 
--- the refusal of a handle without a register, which leaves the value unchanged; or else what holds of
--- the register
-abbrev pub OfRegister : {A : Type 0} → Option Sequential → ℕ → A → A → (Sequential → Type 0) → Type 0
-OfRegister None answer old new holds = (answer ≡ code_of NoRegister) × (new ≡ old)
-OfRegister (Some s) answer old new holds = holds s
+-- the struct is the command's, and gives it
+abbrev pub IsStructOf : Command → BoardCommand → Type 0
+IsStructOf command c = (c ≡ command_as command) × (given_command c ≡ Ok command)
 
--- the value was written
-abbrev pub AnswersWith : {A : Type 0} → A → ℕ → A → Type 0
-AnswersWith a answer new = (answer ≡ 0) × (new ≡ a)
+-- the handle's register, or the refusal of a handle without one
+abbrev pub live_register : BoardRegister → Result Sequential Refusal
+live_register h = ok_or (register_in h) NoRegister
 
--- the command at this index of the journal was written, as a struct that gives it
-abbrev pub WritesCommand : Option Command → ℕ → BoardCommand → BoardCommand → Type 0
-WritesCommand None answer old new = (answer ≡ code_of BadIndex) × (new ≡ old)
-WritesCommand (Some c) answer old new = (answer ≡ 0) × (new ≡ command_as c) × (given_command new ≡ Ok c)
+-- what the register has at an index, or the refusal of an index without an item
+abbrev pub at_index : {A : Type 0} → (Sequential → ℕ → Option A) → ℕ → Result Sequential Refusal → Result A Refusal
+at_index item i (Ok s) = ok_or (item s i) BadIndex
+at_index item i (Err why) = Err why
 
--- the counts of a sheet by the majority with this number were written, or no majority has the number
-abbrev pub WritesCounts : ℕ → List ℕ → ℕ → BoardCounts → BoardCounts → Type 0
-WritesCounts number words answer old new = ((answer ≡ 0) × ShowsCounts number words new)
-    ⊎ ((answer ≡ code_of BadRecord) × (majority_numbered number ≡ None) × (new ≡ old))
+-- what is to be counted by the majority with this number, or the refusal of a number that is no
+-- majority's
+abbrev pub by_majority : {A : Type 0} → ℕ → Result A Refusal → Result A Refusal
+by_majority number (Ok a) = ok_or (option_map (λ m. a) (majority_numbered number)) BadRecord
+by_majority number (Err why) = Err why
+
+-- the answer is 0, and `holds` of what was found says what is written; or the answer is the
+-- refusal's number, and nothing is written
+abbrev pub Sets : {A B : Type 0} → Result B Refusal → ℕ → A → A → (B → Type 0) → Type 0
+Sets (Ok found) answer old new holds = (answer ≡ 0) × holds found
+Sets (Err why) answer old new holds = (answer ≡ code_of why) × (new ≡ old)
 
 -- the handle has a copy of the register after its first commands
 abbrev pub IsCopied : Option Sequential → ℕ → BoardRegister → Type 0

@@ -1,14 +1,18 @@
--- What an input contains: its members, its script's items, and the fault that reading it meets.
-use Rattle.std.specs.Prelude.{ℕ, ◌+◌, ◌&&◌, List, [], ◌∷◌, Option, Some, None, Result, Ok, Err, length}
+-- What an input contains: its members, its script's items, and the end of a replay of its records.
+use Rattle.std.specs.Prelude.{ℕ, ◌+◌, ◌&&◌, List, [], ◌∷◌, Option, Result, Ok, Err, length}
 use Rattle.std.specs.Prelude.{nat_le, if◌then◌else◌}
+use Rattle.std.specs.Result.{result_err}
 use Rattle.council_core.specs.Rolls.{Opening}
+use Rattle.council_core.specs.Sequential.{Sequential}
 use Rattle.council_core.specs.declared.refusals.Refusal.{Refusal}
 use Rattle.board_text.specs.Requests.{Row}
-use Rattle.board_text.specs.Text.{Started, started_of, fault_at, in_range, members_in, request_within}
+use Rattle.board_text.specs.Scripts.{script_course}
+use Rattle.board_text.specs.Text.{Started, started_of, in_range, members_in, request_within}
 use Rattle.board_text.specs.declared.bounds.Limits.{Limits}
 use Rattle.board_text.specs.declared.faults.Fault.{Fault}
 use Rattle.board_text.specs.declared.input.TheConstants.{INPUT_LIMIT}
 use Rattle.board_text.specs.declared.requests.Request.{Request}
+use Rattle.board_runs.specs.Replays.{replay_effect}
 use Rattle.board_c.specs.Items.{item_as}
 use Rattle.board_c.specs.Spans.{input_rows}
 use Rattle.board_c.specs.declared.script.items.BoardItem.{BoardItem}
@@ -29,14 +33,9 @@ unfoldable pub items_from : Limits → ℕ → List Row → List BoardItem
 items_from lim k [] = []
 items_from lim k (r ∷ rs) = item_then k (request_within lim r) (items_from lim (k + 1) rs)
 
-abbrev pub fault_or : ℕ → Result Request Refusal → Option Fault → Option Fault
-fault_or k (Ok q) more = more
-fault_or k (Err why) more = Some (fault_at why k)
-
--- the first fault of a script's records
-unfoldable pub fault_from : Limits → ℕ → List Row → Option Fault
-fault_from lim k [] = None
-fault_from lim k (r ∷ rs) = fault_or k (request_within lim r) (fault_from lim (k + 1) rs)
+-- the fault that ends a replay of records on a register, if any; k is the number of the first
+abbrev pub end_from : Limits → ℕ → Sequential → List Row → Option Fault
+end_from lim k s rows = result_err (script_course (request_within lim) replay_effect s k rows).end
 
 abbrev pub items_started : Limits → Result Started Fault → List BoardItem
 items_started lim (Err f) = []

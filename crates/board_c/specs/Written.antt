@@ -5,28 +5,20 @@ use Rattle.council_core.specs.Refusals.{code_of}
 use Rattle.council_core.specs.Rolls.{Opening}
 use Rattle.council_core.specs.declared.refusals.Refusal.{Refusal}
 use Rattle.council_core.specs.declared.refusals.Refusal.TheVariants.{OutOfMemory}
-use Rattle.two_copy_steps.specs.Lawful.{IsPrefix}
 use Rattle.board_runs.specs.Replays.{run_of}
-use Rattle.board_text.specs.Output.{ReadTo}
+use Rattle.board_text.specs.Output.{IsPrefixOf, ReadTo}
 use Rattle.board_text.specs.Text.{started_of, fault_at}
 use Rattle.board_text.specs.declared.bounds.Limits.{Limits}
 use Rattle.board_text.specs.declared.faults.Fault.{Fault}
-use Rattle.board_text.specs.declared.requests.Request.{Request}
 use Rattle.board_text.specs.declared.stops.Stop.{Stop}
 use Rattle.board_text.specs.declared.stops.Stop.TheVariants as stop
 use Rattle.board_c.specs.Ends.{answer_of, record_of}
 use Rattle.board_c.specs.Contents.{items_of, members_of}
 use Rattle.c_values.specs.Given.{entry_as}
-use Rattle.board_c.specs.Items.{item_as, with_span, without_span}
+use Rattle.board_c.specs.Items.{without_span}
 use Rattle.board_c.specs.Spans.{SpansItsLine}
-use Rattle.board_c.specs.declared.script.lines.LineSpan.{LineSpan}
 use Rattle.board_c.specs.declared.script.items.BoardItem.{BoardItem}
 use Rattle.c_values.specs.declared.entries.BoardEntry.{BoardEntry}
-
--- the item of record number k with its span, or the stop of its fault
-abbrev pub item_at : ℕ → LineSpan → Result Request Refusal → Result BoardItem Stop
-item_at k span (Ok q) = Ok (with_span span.from span.to (item_as k q))
-item_at k span (Err why) = Err (stop.Input (fault_at why k))
 
 -- as many as fit of `all`, written over the front of `old`
 abbrev pub overlaid : {A : Type 0} → List A → List A → List A
@@ -78,8 +70,8 @@ pub record IsWholeInput (lim : Limits) (bytes : List ℕ) (members : Opening) (i
 -- memory ran out: a part of it
 pub record IsPartOfInput (lim : Limits) (bytes : List ℕ) (members : Opening) (items : List BoardItem)
     (answer place : ℕ) : Type 0 where
-  pub members_front : IsPrefix members (members_of lim bytes)
-  pub items_front : IsPrefix (map without_span items) (items_of lim bytes)
+  pub members_front : IsPrefixOf members (members_of lim bytes)
+  pub items_front : IsPrefixOf (map without_span items) (items_of lim bytes)
   pub number : answer ≡ code_of OutOfMemory
   pub at : place ≡ 0
 

@@ -20,7 +20,7 @@ use members::sheet_of_members;
 use power_index::ListRoom;
 
 // The counts of a sheet that is given by its words. Words that are not a sheet's are refused first,
-// and then a number of no majority.
+// and then a number that is no majority's.
 fn counts_of_words(words: &[u64], number: u32, room: &mut ListRoom) -> Result<BoardCounts, Refusal>
     ensures counts { IfOk result (λ c. ShowsCounts number words.now c) }
     ensures refused { IfErr result (λ why. IsRefusedAs number words.now why) }
@@ -43,7 +43,6 @@ fn counts_of_weights(
     counts_of_words(&words, number, room)
 }
 
-// The counts of a board that is given by its members and a mask of open chairs.
 fn counts_of_members(
     members: &[BoardMember],
     mask: u32,

@@ -1,16 +1,14 @@
 //! The register itself. A program holds a handle, two words that are 0 at first.
 //! `board_register_start` puts a register into it, and `board_register_free` takes the register
 //! out. Every other call is one of `council_core::PublishedRegister` and restates its clauses.
-ghost use Rattle.std.specs.Prelude.{◌≡◌, ◌⊎◌, None, MatchOption, length, slice_get};
+ghost use Rattle.std.specs.Prelude.{◌≡◌, ◌⊎◌, None, MatchOption, length};
 ghost use Rattle.council_core.specs.Ledgers.{roll_of, sheet_of};
 ghost use Rattle.council_core.specs.Published.{sequential_taken_back};
-ghost use Rattle.council_core.specs.Refusals.{code_of};
 ghost use Rattle.council_core.specs.Sequential.{published_sheet};
-ghost use Rattle.council_core.specs.declared.refusals.Refusal.TheVariants.{NoRegister};
-ghost use Rattle.c_values.specs.Counts.{ShowsAllCounts};
+ghost use Rattle.c_values.specs.Counts.{ShowsAllCounts, ShowsCounts};
 ghost use Rattle.board_c.specs.Calls.{Answers, AnswersCopy, HasAccepted, IsCopied, IsRefusedStart, IsStarted};
-ghost use Rattle.board_c.specs.Calls.{OfRegister, AnswersWith, WritesAt, WritesCommand, WritesCounts, all_published};
-ghost use Rattle.board_c.specs.Calls.{opening_entry, reply_number, register_in, reply, row_at};
+ghost use Rattle.board_c.specs.Calls.{IsStructOf, Sets, all_published, at_index, by_majority, command_at};
+ghost use Rattle.board_c.specs.Calls.{live_register, opening_entry, register_in, reply, reply_number, row_at};
 ghost use Rattle.board_c.specs.Lending.{with_register};
 
 mod handles;
@@ -67,9 +65,9 @@ pub extern "C" fn board_register_start(
 /// # Errors
 ///
 /// Returns the number of a refusal, and leaves the handle, its register and `accepted` unchanged:
-/// 34, `NoRegister`, if the handle has no register; 17, `BadRecord`, for a kind of no command;
-/// 15, `BadMember`, 14, `BadChair`, or 16, `VotesTooLarge`, for a code, a chair or votes that are
-/// none; otherwise the refusal of `Register::apply`.
+/// 34, `NoRegister`, if the handle has no register; 17, `BadRecord`, for a number that is no kind of
+/// command; 15, `BadMember`, 14, `BadChair`, or 16, `VotesTooLarge`, for a code, a chair or votes
+/// that are none; otherwise the refusal of `Register::apply`.
 #[unsafe(no_mangle)]
 pub extern "C" fn board_register_apply(
     register: &mut BoardRegister,
@@ -112,8 +110,8 @@ pub extern "C" fn board_register_check(register: &mut BoardRegister, command: &B
 /// Returns 34, `NoRegister`, and leaves `published` unchanged, if the handle has no register.
 #[unsafe(no_mangle)]
 pub extern "C" fn board_register_publish(register: &mut BoardRegister, published: &mut u32) -> u8
-    ensures published { OfRegister (register_in register.old) result published.old published.new
-        (λ s. AnswersWith (length s.ledger.journal) result published.new) }
+    ensures published { Sets (live_register register.old) result published.old published.new
+        (λ s. published.new ≡ length s.ledger.journal) }
     ensures register { MatchOption (register_in register.old) (register.new ≡ register.old)
         (λ s. register.new ≡ with_register register.old (all_published s)) }
 {
@@ -186,8 +184,7 @@ pub extern "C" fn board_register_member_at(
     index: usize,
     row: &mut BoardMemberRow,
 ) -> u8
-    ensures row { OfRegister (register_in register.old) result row.old row.new
-        (λ s. WritesAt (row_at s index) result row.old row.new) }
+    ensures row { Sets (at_index row_at index (live_register register.old)) result row.old row.new (λ r. row.new ≡ r) }
     ensures unchanged { register.new ≡ register.old }
 {
     if register.state() != LIVE {
@@ -209,8 +206,8 @@ pub extern "C" fn board_register_entry_at(
     index: usize,
     entry: &mut BoardEntry,
 ) -> u8
-    ensures entry { OfRegister (register_in register.old) result entry.old entry.new
-        (λ s. WritesAt (opening_entry s index) result entry.old entry.new) }
+    ensures entry { Sets (at_index opening_entry index (live_register register.old)) result entry.old entry.new
+        (λ e. entry.new ≡ e) }
     ensures unchanged { register.new ≡ register.old }
 {
     if register.state() != LIVE {
@@ -232,8 +229,8 @@ pub extern "C" fn board_register_command_at(
     index: usize,
     command: &mut BoardCommand,
 ) -> u8
-    ensures command { OfRegister (register_in register.old) result command.old command.new
-        (λ s. WritesCommand (slice_get s.ledger.journal index) result command.old command.new) }
+    ensures command { Sets (at_index command_at index (live_register register.old)) result command.old command.new
+        (λ c. IsStructOf c command.new) }
     ensures unchanged { register.new ≡ register.old }
 {
     if register.state() != LIVE {
@@ -252,8 +249,7 @@ pub extern "C" fn board_register_sheet(
     register: &mut BoardRegister,
     words: &mut [u64; SHEET_WORDS],
 ) -> u8
-    ensures sheet { OfRegister (register_in register.old) result words.old words.new
-        (λ s. AnswersWith (sheet_of s.ledger) result words.new) }
+    ensures sheet { Sets (live_register register.old) result words.old words.new (λ s. words.new ≡ sheet_of s.ledger) }
     ensures unchanged { register.new ≡ register.old }
 {
     if register.state() != LIVE {
@@ -276,8 +272,8 @@ pub extern "C" fn board_register_counts(
     room: &mut ListRoom,
     counts: &mut BoardCounts,
 ) -> u8
-    ensures counts { OfRegister (register_in register.old) result counts.old counts.new
-        (λ s. WritesCounts majority (sheet_of s.ledger) result counts.old counts.new) }
+    ensures counts { Sets (by_majority majority (live_register register.old)) result counts.old counts.new
+        (λ s. ShowsCounts majority (sheet_of s.ledger) counts.new) }
     ensures unchanged { register.new ≡ register.old }
 {
     if register.state() != LIVE {
@@ -297,8 +293,8 @@ pub extern "C" fn board_register_all_counts(
     room: &mut ListRoom,
     counts: &mut BoardAllCounts,
 ) -> u8
-    ensures counts { OfRegister (register_in register.old) result counts.old counts.new
-        (λ s. (result ≡ DONE) × ShowsAllCounts (sheet_of s.ledger) counts.new) }
+    ensures counts { Sets (live_register register.old) result counts.old counts.new
+        (λ s. ShowsAllCounts (sheet_of s.ledger) counts.new) }
     ensures unchanged { register.new ≡ register.old }
 {
     if register.state() != LIVE {
@@ -320,8 +316,8 @@ pub extern "C" fn board_register_read(
     room: &mut ListRoom,
     counts: &mut BoardCounts,
 ) -> u8
-    ensures counts { OfRegister (register_in register.old) result counts.old counts.new
-        (λ s. WritesCounts majority (published_sheet s) result counts.old counts.new) }
+    ensures counts { Sets (by_majority majority (live_register register.old)) result counts.old counts.new
+        (λ s. ShowsCounts majority (published_sheet s) counts.new) }
     ensures unchanged { register.new ≡ register.old }
 {
     if register.state() != LIVE {
@@ -375,15 +371,15 @@ pub extern "C" fn board_register_undo(
     accepted: u32,
     published: u32,
 ) -> u8
-    ensures answer { MatchOption (register_in register.old) (result ≡ code_of NoRegister) (λ _. result ≡ DONE) }
-    ensures register { MatchOption (register_in register.old) (register.new ≡ register.old)
+    ensures register { Sets (live_register register.old) result register.old register.new
         (λ s. register.new ≡ with_register register.old (sequential_taken_back s accepted published)) }
 {
-    if register.state() != LIVE {
-        return Refusal::NoRegister.code();
+    if register.state() == LIVE {
+        register_of(register).undo_to(accepted, published);
+        DONE
+    } else {
+        Refusal::NoRegister.code()
     }
-    register_of(register).undo_to(accepted, published);
-    DONE
 }
 
 /// Frees the register of the handle, if it has one. A second call does nothing.

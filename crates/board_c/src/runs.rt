@@ -58,8 +58,8 @@ pub extern "C" fn board_replay(
     written: &mut u64,
     place: &mut u32,
 ) -> u8
-    ensures shows { ShowsRun (run_of (run_limits readers journal) input.now) (length out.old) (take written.new out.new)
-        result place.new }
+    ensures shows { ShowsRun (run_of (run_limits readers journal) input.now) (length out.old)
+        (take written.new out.new) result place.new }
     ensures within { written.new ≤ length out.old }
     ensures rest { drop written.new out.new ≡ drop written.new out.old }
     ensures done { result ≡ DONE → IsWhole
@@ -134,8 +134,8 @@ pub extern "C" fn board_trace(
     written: &mut u64,
     place: &mut u32,
 ) -> u8
-    ensures shows { ShowsRun (trace_of (run_limits readers journal) input.now) (length out.old) (take written.new out.new)
-        result place.new }
+    ensures shows { ShowsRun (trace_of (run_limits readers journal) input.now) (length out.old)
+        (take written.new out.new) result place.new }
     ensures within { written.new ≤ length out.old }
     ensures rest { drop written.new out.new ≡ drop written.new out.old }
     ensures done { result ≡ DONE → IsWhole

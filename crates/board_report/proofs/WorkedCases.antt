@@ -3,7 +3,7 @@ use Rattle.std.proofs.Common.{◌≡◌, ℕ, List, [], ◌∷◌, ◌++◌, ◌
 use Rattle.std.specs.IoError.{error_kind}
 use Rattle.std.specs.declared.io.Error.{Error}
 use Rattle.std.specs.declared.io.ErrorKind.TheVariants as kind
-use Rattle.recording_io.specs.Tapes.{Giving, given_since}
+use Rattle.recording_io.specs.Tapes.{ReaderRecord, given_since}
 use Rattle.council_core.specs.Refusals.{code_of}
 use Rattle.council_core.specs.declared.refusals.Refusal.TheVariants.{BadHeader, BadLimit, BadRecord, OutOfMemory, ReadFault, WriteFault}
 use Rattle.board_text.specs.Lines.{LineBytes}
@@ -70,7 +70,7 @@ replay_refused (inr (inl refused)) = replay_has_no_fault refused.2
 replay_refused (inr (inr lacks)) = let e = lacks.status_is in cc e
 
 -- any command line that could be read is carried out or answered: with no call and no answer there is no such end
-module _ (from to : Giving) where
+module _ (from to : ReaderRecord) where
   carried_out_by_another_status : (words : List (List ℕ)) → IsHandled from to words 3 unwritten → ⊥
   carried_out_by_another_status words (inl (call, asks, ends)) = ended (ends (given_since from to) (inr ([], sym (append-nil (given_since from to)), λ e. refl)))
     where

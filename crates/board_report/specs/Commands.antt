@@ -4,7 +4,7 @@ use Rattle.clap.specs.Simple.{on_top}
 use Rattle.clap.specs.Words.{App, Rule, Text, new_app, new_rule}
 use Rattle.clap.specs.Words.{with_rule, with_subcommand}
 use Rattle.council_core.specs.declared.limits.TheConstants.{MAX_COMMANDS}
-use Rattle.two_copy_steps.specs.declared.table.TheConstants.{READERS}
+use Rattle.board_text.specs.declared.bounds.TheConstants.{READERS}
 use Rattle.clap.specs.declared.builder.ArgAction.TheVariants.{Set}
 use Rattle.clap.specs.declared.builder.value_parser.ValueParser.TheVariants as parser
 

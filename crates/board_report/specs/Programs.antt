@@ -1,5 +1,5 @@
 -- The output and the exit status of the program.
-use Rattle.std.specs.Prelude.{◌≡◌, ◌≢◌, ℕ, ◌⊎◌, ⊤, List, [], ◌∷◌, ◌++◌, map, Option, Result, Ok, Err, codes}
+use Rattle.std.specs.Prelude.{◌≡◌, ◌≢◌, ℕ, ◌⊎◌, ⊤, List, [], ◌∷◌, ◌++◌, map, Option, Some, Result, Ok, Err, codes}
 use Rattle.std.specs.Prelude.{String}
 use Rattle.std.specs.Global.{Global}
 use Rattle.std.specs.Io.KnownBytes.{Keeps}
@@ -10,7 +10,7 @@ use Rattle.std.specs.declared.io.Error.{Error}
 use Rattle.std.specs.declared.io.ErrorKind.TheVariants as kind
 use Rattle.std.specs.declared.vec.IntoIter.{IntoIter}
 use Rattle.clap.specs.Words.{Text}
-use Rattle.recording_io.specs.Tapes.{Giving, OfInput}
+use Rattle.recording_io.specs.Tapes.{OfInput, ReaderRecord, WriterRecord}
 use Rattle.council_core.specs.Refusals.{code_of}
 use Rattle.council_core.specs.declared.refusals.Refusal.TheVariants.{OutOfMemory}
 use Rattle.board_report.specs.Calls.{Asks, AskText, HaveFault}
@@ -52,6 +52,11 @@ abbrev pub written_streams : Option (List ℕ) → Option (List ℕ) → Option 
 written_streams out_old out_new err_old err_new =
     record { out_old = out_old; out_new = out_new; err_old = err_old; err_new = err_new }
 
+-- what two writers have recorded, before and after the program
+abbrev pub streams_of : WriterRecord → WriterRecord → WriterRecord → WriterRecord → Written
+streams_of out_old out_new err_old err_new =
+    written_streams (Some out_old.bytes) (Some out_new.bytes) (Some err_old.bytes) (Some err_new.bytes)
+
 -- out of memory before any call ran: status 1 and a prefix of that fault's text on standard error
 pub record LacksMemory (status : ℕ) (s : Written) : Type 0 where
   pub status_is : status ≡ 1
@@ -87,7 +92,7 @@ CallExits call bytes status s =
     ⊎ LacksMemory status s
 
 -- any command line: it asks for a call, which ran over the input, or it is answered without one
-abbrev pub IsHandled : Giving → Giving → List Text → ℕ → Written → Type 0
+abbrev pub IsHandled : ReaderRecord → ReaderRecord → List Text → ℕ → Written → Type 0
 IsHandled from to words status s =
     ((call : Invocation) × Asks words call × OfInput from to (λ bytes. CallExits call bytes status s))
     ⊎ AnswersWords words status s

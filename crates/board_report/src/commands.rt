@@ -3,10 +3,10 @@ ghost use Rattle.std.specs.Prelude.{◌≡◌, false, codes, IfOk};
 ghost use Rattle.clap.specs.Words.{app_of, rule_of};
 ghost use Rattle.board_report.specs.Commands.{bare_app, board_app, journal_rule, limited_app, readers_rule, serve_app};
 
+use board_text::READERS;
 use clap::{Arg, ArgAction, Command};
 use council_core::MAX_COMMANDS;
 use std::alloc::{AllocError, Global};
-use two_copy_steps::READERS;
 
 // The version of the program, and the toolchain and logic in which it is proved.
 const VERSION: &str = "0.11.0 (rattle-kit-13 logic dac8208d650f15bf)";

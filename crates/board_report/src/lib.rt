@@ -11,4 +11,4 @@ pub use board_serve::{FreeGate, Gate, GateClosed, Place, Served, serve};
 pub use board_text::{Fault, Limits};
 pub use calls::{Invocation, NoCall};
 pub use programs::process;
-pub use recording_io::{RecordingReader, RecordingWriter};
+pub use recording_io::{Recorder, RecordingReader, RecordingWriter};

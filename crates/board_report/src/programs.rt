@@ -1,7 +1,7 @@
 //! Runs the program and returns its exit status.
-ghost use Rattle.std.specs.Prelude.{◌≡◌, ◌≤◌, ◌+◌, ℕ, List, map, Option, IfOk, IfErr};
+ghost use Rattle.std.specs.Prelude.{◌≡◌, ◌≤◌, ℕ, List, map, Some, IfOk, IfErr};
 ghost use Rattle.std.specs.Process.{exit_status};
-ghost use Rattle.recording_io.specs.Tapes.{OfInput};
+ghost use Rattle.recording_io.specs.Tapes.{CallsWithin, IsSameWriter, OfInput, WriterRecord};
 ghost use Rattle.std.specs.String.{string_bytes};
 ghost use Rattle.council_core.specs.Refusals.{code_of};
 ghost use Rattle.council_core.specs.declared.refusals.Refusal.TheVariants.{OutOfMemory};
@@ -10,28 +10,31 @@ ghost use Rattle.board_report.specs.declared.calls.Invocation.{Invocation};
 ghost use Rattle.board_report.specs.declared.calls.Invocation.TheVariants.{Serve};
 ghost use Rattle.board_report.specs.declared.calls.NoCall.TheVariants as none;
 ghost use Rattle.board_report.specs.Programs.{AnswersWords, CallEnds, CallExits, IsHandled, LacksMemory, LacksWords};
-ghost use Rattle.board_report.specs.Programs.{failure_text, no_text, words_of, written_streams};
-ghost use Rattle.board_text.specs.Inputs.{InterruptedAtMost, IsOfDevice, ReadsWithin, WastesAtMost};
+ghost use Rattle.board_report.specs.Programs.{failure_text, no_text, streams_of, words_of};
+ghost use Rattle.board_text.specs.Streams.{IsOfDevice, RunsWithin, WritesWithin, most_reads, one_more};
 ghost use Rattle.board_text.specs.Output.{AppendsFront};
 
 use crate::calls::{Invocation, NoCall};
 use board_runs::{replay, trace};
 use board_serve::{FreeGate, serve};
-use board_text::{Fault, INTERRUPTIONS, Limits, Line, READS, say};
+use board_text::{Fault, Limits, Line, say};
 use council_core::Refusal;
-use recording_io::RecordingReader;
+use recording_io::{Recorder, RecordingReader};
 use std::alloc::Global;
 use std::env::Args;
 use std::io;
-use std::io::{ErrorKind, Read, Write};
+use std::io::{ErrorKind, Read};
 use std::process::ExitCode;
 use std::sync::Wait;
 use std::thread::Threads;
 
 // Writes the name of a fault and returns the status.
-fn fail<E: Write>(err: &mut E, fault: Fault) -> u8
+fn fail<E: Recorder>(err: &mut E, fault: Fault) -> u8
     ensures status { result ≡ 1 }
-    ensures said { AppendsFront (E.contents err.old) (E.contents err.new) (failure_text fault.code) }
+    ensures said { AppendsFront (Some (E.recorded err.old).bytes) (Some (E.recorded err.new).bytes)
+        (failure_text fault.code) }
+    ensures same { IsSameWriter (E.recorded err.old) (E.recorded err.new) }
+    ensures writes { WritesWithin (E.recorded err.old) (E.recorded err.new) }
 {
     let mut line = Line::new("board: ");
     line.text(fault.name());
@@ -41,22 +44,29 @@ fn fail<E: Write>(err: &mut E, fault: Fault) -> u8
 }
 
 // Writes that memory ran out and returns the status.
-fn fail_for_memory<E: Write>(err: &mut E) -> u8
+fn fail_for_memory<E: Recorder>(err: &mut E) -> u8
     ensures status { result ≡ 1 }
-    ensures said { AppendsFront (E.contents err.old) (E.contents err.new) (failure_text (code_of OutOfMemory)) }
+    ensures said { AppendsFront (Some (E.recorded err.old).bytes) (Some (E.recorded err.new).bytes)
+        (failure_text (code_of OutOfMemory)) }
+    ensures same { IsSameWriter (E.recorded err.old) (E.recorded err.new) }
+    ensures writes { WritesWithin (E.recorded err.old) (E.recorded err.new) }
 {
     fail(err, Fault::new(Refusal::OutOfMemory, 0))
 }
 
 // Writes why the arguments gave no call, or the help, and returns the status.
-fn explain<W: Write, E: Write>(why: &NoCall, out: &mut W, err: &mut E) -> u8
+fn explain<W: Recorder, E: Recorder>(why: &NoCall, out: &mut W, err: &mut E) -> u8
     ensures status { result ≤ 2 }
     ensures memory { why.now ≡ none.OutOfMemory
-        → LacksMemory result (written_streams (W.contents out.old) (W.contents out.new) (E.contents err.old)
-        (E.contents err.new)) }
+        → LacksMemory result
+        (streams_of (W.recorded out.old) (W.recorded out.new) (E.recorded err.old) (E.recorded err.new)) }
     ensures answered { (words : List (List ℕ)) → Explains words why.now
         → AnswersWords words result
-        (written_streams (W.contents out.old) (W.contents out.new) (E.contents err.old) (E.contents err.new)) }
+        (streams_of (W.recorded out.old) (W.recorded out.new) (E.recorded err.old) (E.recorded err.new)) }
+    ensures same { IsSameWriter (W.recorded out.old) (W.recorded out.new)
+        × IsSameWriter (E.recorded err.old) (E.recorded err.new) }
+    ensures out_writes { WritesWithin (W.recorded out.old) (W.recorded out.new) }
+    ensures err_writes { WritesWithin (E.recorded err.old) (E.recorded err.new) }
 {
     match why {
         NoCall::Shown(text) => {
@@ -72,7 +82,7 @@ fn explain<W: Write, E: Write>(why: &NoCall, out: &mut W, err: &mut E) -> u8
 }
 
 // Runs `serve` with a journal of at most `journal` commands and returns how it ended.
-fn run_serve<T: Threads + Wait + Sync, R: Read + Drop, W: Write>(
+fn run_serve<T: Threads + Wait + Sync, R: Read + Drop, W: Recorder>(
     rt: &T,
     alloc: Global,
     journal: u32,
@@ -80,8 +90,11 @@ fn run_serve<T: Threads + Wait + Sync, R: Read + Drop, W: Write>(
     out: &mut W,
 ) -> Result<(), Fault>
     ensures ends { OfInput input.old input.new
-        (λ bytes. CallEnds (Serve journal) bytes (W.contents out.old) (W.contents out.new) result) }
-    ensures reads { ReadsWithin IsOfDevice input.old input.new result }
+        (λ bytes. CallEnds (Serve journal) bytes (Some (W.recorded out.old).bytes) (Some (W.recorded out.new).bytes)
+        result) }
+    ensures reads { RunsWithin IsOfDevice most_reads input.old.calls input.new.calls result }
+    ensures same { IsSameWriter (W.recorded out.old) (W.recorded out.new) }
+    ensures writes { WritesWithin (W.recorded out.old) (W.recorded out.new) }
 {
     match serve(rt, alloc, &FreeGate, input, out, journal) {
         Ok(_served) => Ok(()),
@@ -90,7 +103,7 @@ fn run_serve<T: Threads + Wait + Sync, R: Read + Drop, W: Write>(
 }
 
 // Runs the call and returns how it ended.
-fn run<T: Threads + Wait + Sync, R: Read + Drop, W: Write>(
+fn run<T: Threads + Wait + Sync, R: Read + Drop, W: Recorder>(
     rt: &T,
     alloc: Global,
     call: Invocation,
@@ -98,8 +111,10 @@ fn run<T: Threads + Wait + Sync, R: Read + Drop, W: Write>(
     out: &mut W,
 ) -> Result<(), Fault>
     ensures ends { OfInput input.old input.new
-        (λ bytes. CallEnds call bytes (W.contents out.old) (W.contents out.new) result) }
-    ensures reads { ReadsWithin IsOfDevice input.old input.new result }
+        (λ bytes. CallEnds call bytes (Some (W.recorded out.old).bytes) (Some (W.recorded out.new).bytes) result) }
+    ensures reads { RunsWithin IsOfDevice most_reads input.old.calls input.new.calls result }
+    ensures same { IsSameWriter (W.recorded out.old) (W.recorded out.new) }
+    ensures writes { WritesWithin (W.recorded out.old) (W.recorded out.new) }
 {
     match call {
         Invocation::Replay { readers, journal } => {
@@ -113,7 +128,7 @@ fn run<T: Threads + Wait + Sync, R: Read + Drop, W: Write>(
 }
 
 // Runs the program on its arguments and returns the exit status.
-fn program<T: Threads + Wait + Sync, R: Read + Drop, W: Write, E: Write>(
+fn program<T: Threads + Wait + Sync, R: Read + Drop, W: Recorder, E: Recorder>(
     rt: &T,
     alloc: Global,
     words: &[String],
@@ -124,14 +139,16 @@ fn program<T: Threads + Wait + Sync, R: Read + Drop, W: Write, E: Write>(
     ensures status { result ≤ 2 }
     ensures calls { (call : Invocation) → Asks (map string_bytes words.now) call
         → OfInput input.old input.new (λ bytes. CallExits call bytes result
-        (written_streams (W.contents out.old) (W.contents out.new) (E.contents err.old) (E.contents err.new))) }
+        (streams_of (W.recorded out.old) (W.recorded out.new) (E.recorded err.old) (E.recorded err.new))) }
     ensures answers { IsHandled input.old input.new (map string_bytes words.now) result
-        (written_streams (W.contents out.old) (W.contents out.new) (E.contents err.old) (E.contents err.new)) }
+        (streams_of (W.recorded out.old) (W.recorded out.new) (E.recorded err.old) (E.recorded err.new)) }
     ensures unread { AskForNone (map string_bytes words.now) → input.new ≡ input.old }
-    ensures asks { input.new.asks ≤ input.old.asks + READS }
-    ensures vain { WastesAtMost 1 input.old input.new }
-    ensures retried { result ≡ 0 → InterruptedAtMost INTERRUPTIONS input.old input.new }
-    ensures interrupted { InterruptedAtMost (INTERRUPTIONS + 1) input.old input.new }
+    ensures reads { CallsWithin (one_more most_reads) input.old.calls input.new.calls }
+    ensures retried { result ≡ 0 → CallsWithin most_reads input.old.calls input.new.calls }
+    ensures same { IsSameWriter (W.recorded out.old) (W.recorded out.new)
+        × IsSameWriter (E.recorded err.old) (E.recorded err.new) }
+    ensures out_writes { WritesWithin (W.recorded out.old) (W.recorded out.new) }
+    ensures err_writes { WritesWithin (E.recorded err.old) (E.recorded err.new) }
 {
     let call = match Invocation::from_words(alloc, words) {
         Ok(call) => call,
@@ -144,10 +161,12 @@ fn program<T: Threads + Wait + Sync, R: Read + Drop, W: Write, E: Write>(
 }
 
 // Writes why the arguments could not be read and returns the status.
-fn fail_for_words<E: Write>(err: &mut E, error: &io::Error) -> u8
+fn fail_for_words<E: Recorder>(err: &mut E, error: &io::Error) -> u8
     ensures status { result ≤ 2 }
-    ensures lacks { (out : Option (List ℕ)) → LacksWords error.now result
-        (written_streams out out (E.contents err.old) (E.contents err.new)) }
+    ensures lacks { (out : WriterRecord) → LacksWords error.now result
+        (streams_of out out (E.recorded err.old) (E.recorded err.new)) }
+    ensures same { IsSameWriter (E.recorded err.old) (E.recorded err.new) }
+    ensures writes { WritesWithin (E.recorded err.old) (E.recorded err.new) }
 {
     if error.kind() == ErrorKind::OutOfMemory {
         return fail_for_memory(err);
@@ -171,13 +190,17 @@ fn fail_for_words<E: Write>(err: &mut E, error: &io::Error) -> u8
 /// standard error it promises a prefix, which may be empty.
 ///
 /// At most `READS` reads of the input are made, and none after the read that reported its end or
-/// failed. At most `INTERRUPTIONS` interrupted reads are retried.
+/// failed. At most `INTERRUPTIONS` interrupted reads are retried. Each write to `out` or `err`
+/// accepts a byte, or is interrupted and retried, at most `INTERRUPTIONS` times for each of the two;
+/// none follows a write that failed, accepted nothing, or was interrupted once more.
 ///
 /// ```rust
 /// let mut input = RecordingReader::new(rt.stdin());
-/// let code = process(&rt, rt.alloc(), env::args(&rt), &mut input, &mut rt.stdout(), &mut rt.stderr());
+/// let (mut stdout, mut stderr) = (rt.stdout(), rt.stderr());
+/// let (mut out, mut err) = (RecordingWriter::new(&mut stdout), RecordingWriter::new(&mut stderr));
+/// let code = process(&rt, rt.alloc(), env::args(&rt), &mut input, &mut out, &mut err);
 /// ```
-pub fn process<T: Threads + Wait + Sync, R: Read + Drop, W: Write, E: Write>(
+pub fn process<T: Threads + Wait + Sync, R: Read + Drop, W: Recorder, E: Recorder>(
     rt: &T,
     alloc: Global,
     args: io::Result<Args>,
@@ -188,17 +211,19 @@ pub fn process<T: Threads + Wait + Sync, R: Read + Drop, W: Write, E: Write>(
     ensures status { exit_status result ≤ 2 }
     ensures calls { IfOk args (λ words. (call : Invocation) → Asks (words_of words) call
         → OfInput input.old input.new (λ bytes. CallExits call bytes (exit_status result)
-        (written_streams (W.contents out.old) (W.contents out.new) (E.contents err.old) (E.contents err.new)))) }
+        (streams_of (W.recorded out.old) (W.recorded out.new) (E.recorded err.old) (E.recorded err.new)))) }
     ensures answers { IfOk args (λ words. IsHandled input.old input.new (words_of words) (exit_status result)
-        (written_streams (W.contents out.old) (W.contents out.new) (E.contents err.old) (E.contents err.new))) }
+        (streams_of (W.recorded out.old) (W.recorded out.new) (E.recorded err.old) (E.recorded err.new))) }
     ensures lacks { IfErr args (λ e. LacksWords e (exit_status result)
-        (written_streams (W.contents out.old) (W.contents out.new) (E.contents err.old) (E.contents err.new))) }
+        (streams_of (W.recorded out.old) (W.recorded out.new) (E.recorded err.old) (E.recorded err.new))) }
     ensures unread { IfOk args (λ words. AskForNone (words_of words) → input.new ≡ input.old) }
     ensures kept { IfErr args (λ e. input.new ≡ input.old) }
-    ensures asks { input.new.asks ≤ input.old.asks + READS }
-    ensures vain { WastesAtMost 1 input.old input.new }
-    ensures retried { exit_status result ≡ 0 → InterruptedAtMost INTERRUPTIONS input.old input.new }
-    ensures interrupted { InterruptedAtMost (INTERRUPTIONS + 1) input.old input.new }
+    ensures reads { CallsWithin (one_more most_reads) input.old.calls input.new.calls }
+    ensures retried { exit_status result ≡ 0 → CallsWithin most_reads input.old.calls input.new.calls }
+    ensures same { IsSameWriter (W.recorded out.old) (W.recorded out.new)
+        × IsSameWriter (E.recorded err.old) (E.recorded err.new) }
+    ensures out_writes { WritesWithin (W.recorded out.old) (W.recorded out.new) }
+    ensures err_writes { WritesWithin (E.recorded err.old) (E.recorded err.new) }
 {
     let args = match args {
         Ok(args) => args,

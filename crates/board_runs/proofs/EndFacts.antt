@@ -1,5 +1,5 @@
 -- The fault that ends a run, where one does, is one that the input has.
-use Rattle.std.proofs.Common.{◌≡◌, ◌==◌, ℕ, ◌+◌, Bool, true, false, List, [], ◌∷◌, Option, Some, None, Result, Ok, Err, ◌++◌, ◌||◌, IsTrue, IfErr, if◌then◌else◌, nat_le, nat_lt, refl, subst, length}
+use Rattle.std.proofs.Common.{◌≡◌, ◌==◌, ℕ, ◌+◌, Bool, true, false, List, [], ◌∷◌, Option, Some, None, Result, Ok, Err, ◌||◌, IsTrue, IfErr, if◌then◌else◌, nat_le, nat_lt, refl, subst, length}
 use Rattle.std.specs.Bool.{⊤}
 use Rattle.std.specs.List.{list_any}
 use Rattle.std.specs.Result.{result_err}
@@ -10,15 +10,14 @@ use Rattle.council_core.specs.Rolls.{Opening}
 use Rattle.council_core.specs.Refusals.{code_of}
 use Rattle.council_core.specs.declared.refusals.Refusal.{Refusal}
 use Rattle.council_core.specs.declared.refusals.Refusal.TheVariants.{BadHeader, BadLimit, BadReader, BadRecord, DuplicateMember, NoScript, TooLong, TooManyMembers}
-use Rattle.board_text.specs.Lines.{LineBytes}
-use Rattle.board_text.specs.Requests.{Row, request_of, is_mark, is_header, member_of}
-use Rattle.board_text.specs.Schedules.{act_of, is_scheduled}
-use Rattle.board_text.specs.Text.{Started, Opened, started_of, started_after, before_mark, in_range, is_served, opened_of, opening_of, started_with, unless_bad, valid_or_refused}
+use Rattle.board_text.specs.Requests.{Row, request_of, is_mark, is_header}
+use Rattle.board_text.specs.Text.{Started, Opened, started_of, started_after, before_mark, in_range, is_served, opened_of, opening_of, request_within, started_with, unless_bad, valid_or_refused}
 use Rattle.board_text.specs.declared.bounds.Limits.{Limits}
 use Rattle.board_text.specs.declared.faults.Fault.{Fault}
-use Rattle.board_runs.specs.Replays.{replay_start, replay_step, reply_to, run_of}
-use Rattle.board_runs.specs.Traces.{machine_turn, trace_of, trace_start, trace_step}
-use Rattle.board_text.specs.Scripts.{Course, Turn, started_course, course_of_script, course_step, interpreted_course, run_in, script_course, turn_of}
+use Rattle.board_text.specs.Scripts.{Course, Effect, started_course, course_of_script, interpreted_course, record_course, run_in, script_course}
+use Rattle.board_runs.specs.Replays.{replay_effect, replay_start, run_of}
+use Rattle.board_runs.specs.Schedules.{events_of, events_within, has_actor}
+use Rattle.board_runs.specs.Traces.{trace_effect, trace_of, trace_start}
 
 -- the numbers of the faults that an input may have
 abbrev pub is_of_input : ℕ → Bool
@@ -83,39 +82,32 @@ valid-errs fits (Some q) = served (fits q)
     served true = tt
     served false = refl
 
-abbrev TurnErrs : {S : Type 0} → Turn S → Type 0
-TurnErrs turn = IfErr turn (λ why. IsTrue (is_of_input (code_of why)))
-
-turn-errs : {S A : Type 0} (effect : A → List LineBytes × S) (r : Result A Refusal) → IfErr r (λ why. IsTrue (is_of_input (code_of why))) → TurnErrs (turn_of effect r)
-turn-errs effect (Ok q) p = tt
-turn-errs effect (Err why) p = p
-
-step-ends : {S : Type 0} (k : ℕ) (turn : Turn S) (more : S → Course S) → TurnErrs turn → ((s : S) → ErrsByInput (more s).end) → ErrsByInput (course_step k turn more).end
-step-ends k (Err why) more is rest = is
-step-ends k (Ok p) more is rest = rest p.1
+step-ends : {S A : Type 0} (k : ℕ) (r : Result A Refusal) (course : A → Course S) → IfErr r (λ why. IsTrue (is_of_input (code_of why))) → ((a : A) → ErrsByInput (course a).end) → ErrsByInput (record_course k r course).end
+step-ends k (Err why) course is rest = is
+step-ends k (Ok a) course is rest = rest a
 
 end-by_input : {S : Type 0} (end : Result S Fault) (f : Fault) → ErrsByInput end → result_err end ≡ Some f → IsOfInput f
 end-by_input (Ok s) f p is = cc is
 end-by_input (Err g) f p is = let same : g ≡ f = cc is in subst IsOfInput same p
 
--- an interpreter whose steps are refused only by faults that an input has
-module _ {S : Type 0} (opened : Limits → Ledger → S) (step : Limits → S → Row → Turn S) (lim : Limits) (errs : (s : S) (r : Row) → TurnErrs (step lim s r)) where
-  script-ends : (s : S) (k : ℕ) (rs : List Row) → ErrsByInput (script_course (step lim) s k rs).end
+-- an interpreter that refuses a record only by faults that an input has
+module _ {S A : Type 0} (opened : Limits → Ledger → S) (parsed : Limits → Row → Result A Refusal) (effect : Effect S A) (lim : Limits) (errs : (r : Row) → IfErr (parsed lim r) (λ why. IsTrue (is_of_input (code_of why)))) where
+  script-ends : (s : S) (k : ℕ) (rs : List Row) → ErrsByInput (script_course (parsed lim) effect s k rs).end
   unfolding script_course
   script-ends s k [] = tt
-  script-ends s k (r ∷ rs) = step-ends k (step lim s r) _ (errs s r) (λ t. script-ends t (k + 1) rs)
+  script-ends s k (r ∷ rs) = step-ends k (parsed lim r) _ (errs r) (λ a. script-ends (effect s a).1 (k + 1) rs)
 
-  start-ends : (start : Result Started Fault) → ErrsByInput start → ErrsByInput (started_course (course_of_script opened step lim) start).end
+  start-ends : (start : Result Started Fault) → ErrsByInput start → ErrsByInput (started_course (course_of_script opened parsed effect lim) start).end
   start-ends (Err f) p = p
   start-ends (Ok b) p = script-ends _ b.1 b.2
 
-  interpreted-ends : (bytes : List ℕ) (f : Fault) → (run_in (interpreted_course opened step lim bytes)).end ≡ Some f → IsTrue (is_of_input f.code)
+  interpreted-ends : (bytes : List ℕ) (f : Fault) → (run_in (interpreted_course opened parsed effect lim bytes)).end ≡ Some f → IsTrue (is_of_input f.code)
   interpreted-ends bytes f is = end-by_input _ f (start-ends (started_of lim bytes) (start-errs lim bytes)) is
 
 -- where a fault ends a replay, it is one of these
 pub run-ends : (lim : Limits) (bytes : List ℕ) (f : Fault) → (run_of lim bytes).end ≡ Some f → IsTrue (is_of_input f.code)
-run-ends lim = interpreted-ends replay_start replay_step lim (λ s r. turn-errs (reply_to s) _ (valid-errs (is_served lim) (request_of r)))
+run-ends lim = interpreted-ends replay_start request_within replay_effect lim (λ r. valid-errs (is_served lim) (request_of r))
 
 -- and where one ends a trace
 pub trace-ends : (lim : Limits) (bytes : List ℕ) (f : Fault) → (trace_of lim bytes).end ≡ Some f → IsTrue (is_of_input f.code)
-trace-ends lim = interpreted-ends trace_start trace_step lim (λ m r. turn-errs (machine_turn m) _ (valid-errs (is_scheduled lim) (act_of r)))
+trace-ends lim = interpreted-ends trace_start events_within trace_effect lim (λ r. valid-errs (λ e. has_actor lim e.0) (events_of r))

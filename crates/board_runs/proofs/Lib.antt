@@ -1,6 +1,10 @@
-pub mod EndFacts
-pub mod DeskFacts
-pub mod ReplayFacts
-pub mod TraceFacts
-pub mod WorkedCases
+mod EndFacts
+mod DeskFacts
+mod ReplayFacts
+mod RecordedFacts
+mod TraceFacts
+mod ScheduleFacts
+mod ScheduleCases
+mod WorkedCases
 mod RunCases
+pub mod Face

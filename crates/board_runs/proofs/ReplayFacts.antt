@@ -2,23 +2,21 @@
 use Rattle.std.proofs.Common.{◌≡◌, inl, inr, ℕ, List, [], ◌∷◌, ◌++◌, Option, Some, Result, Ok, Err, refl, sym, ap, ◌∙◌, subst}
 use Rattle.std.proofs.lemmas.List.{append-nil}
 use Rattle.std.specs.Io.KnownBytes.{Appends}
-use Rattle.recording_io.specs.Tapes.{Giving, OfInput}
+use Rattle.recording_io.specs.Tapes.{ReaderRecord, OfInput}
 use Rattle.council_core.specs.declared.refusals.Refusal.TheVariants as why
 use Rattle.board_text.specs.Lines.{fault_line}
 use Rattle.board_text.specs.Text.{Run, end_lines, fault_at, output, text_of}
-use Rattle.two_copy_steps.specs.Lawful.{IsPrefix}
-use Rattle.board_text.specs.Output.{AppendsFront, AppendsLines, Ends, EndsRun, EndsStopped, IsBroken, WritesRun, WritesUntilStop, fault_of}
+use Rattle.board_text.specs.Output.{AppendsFront, AppendsLines, Ends, EndsRun, EndsStopped, IsBroken, IsPrefixOf, WritesRun, WritesUntilStop, fault_of}
 use Rattle.board_runs.specs.Ended.{WritesUntilFault, WritesOutput}
 use Rattle.board_text.specs.declared.faults.Fault.{Fault}
 use Rattle.board_text.specs.declared.stops.Stop.{Stop}
 use Rattle.board_text.specs.declared.stops.Stop.TheVariants as stop
-use Rattle.board_text.proofs.RunFacts.{appends-same, front-before, text-after}
-use Rattle.board_text.proofs.RunFacts.{front-then, line-then}
+use Rattle.board_text.proofs.Face.{appends-same, front-before, front-then, line-then, text-after}
 
 -- a run cut by the writer
 cut-run : (a b : Option (List ℕ)) (run : Run) → WritesUntilStop a b stop.WriteFault run → WritesUntilFault a b (fault_at why.WriteFault 0) run
 cut-run a b run p =
-    let P : List ℕ → Type 0 = λ t. IsPrefix p.0 t in
+    let P : List ℕ → Type 0 = λ t. IsPrefixOf p.0 t in
     let front = subst P (sym (text-after run.lines (end_lines run.end))) (front-before p.0 (text_of run.lines) (text_of (end_lines run.end)) p.1) in
     inr (inr (refl, (output run, inl refl, (p.0, front, p.2))))
 
@@ -58,6 +56,6 @@ ended-run a b c (Ok u) r run p e = whole-run a b c u r run p e
 ended-run a b c (Err s) r run p e = stopped-run a b c s r run p e
 
 -- a run of an input that ended
-pub replayed : {A : Type 0} (from to : Giving) (a b c : Option (List ℕ)) (carried : Result A Stop) (r : Result A Fault) (run : List ℕ → Run)
+pub replayed : {A : Type 0} (from to : ReaderRecord) (a b c : Option (List ℕ)) (carried : Result A Stop) (r : Result A Fault) (run : List ℕ → Run)
     → OfInput from to (λ bytes. WritesRun a b carried (run bytes)) → EndsRun b c carried r → OfInput from to (λ bytes. WritesOutput a c r (run bytes))
 replayed from to a b c carried r run p e = λ bytes is. ended-run a b c carried r (run bytes) (p bytes is) e

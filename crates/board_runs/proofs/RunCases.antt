@@ -1,5 +1,5 @@
 -- A whole replay and a whole trace, computed from the bytes of their inputs to their last lines; and the counts that a desk keeps.
-use Rattle.std.proofs.Common.{◌≡◌, ◌++◌, ℕ, List, [], ◌∷◌, Some, None, refl, ap, arith, replicate}
+use Rattle.std.proofs.Common.{◌≡◌, ◌++◌, ℕ, List, [], ◌∷◌, Some, refl, ap, arith, replicate}
 use Rattle.std.specs.Prelude.{codes}
 use Rattle.std.specs.Fmt.{digits}
 use Rattle.csv.specs.Machine.{next_record}
@@ -8,13 +8,11 @@ use Rattle.council_core.specs.declared.refusals.Refusal.TheVariants.{BadReader, 
 use Rattle.majority_rule.specs.declared.majorities.Majority.TheVariants.{Half}
 use Rattle.power_index.specs.Indices.{indices_of}
 use Rattle.power_index.specs.declared.indices.Indices.{Indices}
-use Rattle.two_copy_steps.specs.declared.events.Event.TheVariants as event
 use Rattle.board_text.specs.Scripts.{script_course}
-use Rattle.board_text.specs.Text.{started_of, fault_at, opening_of, run_limits, stopped_run, with_lines}
-use Rattle.board_text.specs.declared.schedules.Act.TheVariants as act
+use Rattle.board_text.specs.Text.{started_of, fault_at, opening_of, printed_run, run_limits, stopped_run, with_lines}
 use Rattle.board_runs.specs.Desks.{AreCounted}
 use Rattle.board_runs.specs.Replays.{run_of}
-use Rattle.board_runs.specs.Traces.{events_of, trace_of}
+use Rattle.board_runs.specs.Traces.{trace_of}
 
 -- a member takes its chair, is published and read; the ninth record asks for a reader that there isn't
 abbrev script : List ℕ
@@ -44,9 +42,13 @@ traced : trace_of (run_limits 1 10) schedule
 unfolding started_of opening_of script_course records_from strip_bom next_record digits
 traced = refl
 
--- an act has as many events as it asks for
-events_of_acts : (events_of (act.Writer 3) ≡ event.Writer ∷ event.Writer ∷ event.Writer ∷ []) × (events_of (act.Reader 2 1) ≡ event.Reader 2 ∷ []) × (events_of act.Publish ≡ event.Publish ∷ [])
-events_of_acts = (refl, refl, refl)
+-- the machine takes an event as often as is asked for, and prints the outputs
+abbrev three_steps : List ℕ
+three_steps = codes "member,votes\nAAA,3\nscript\nwriter,3\nreader,1,2\npublish"
+
+steps_taken : trace_of (run_limits 1 10) three_steps ≡ printed_run (codes "skipped" ∷ codes "skipped" ∷ codes "skipped" ∷ codes "published,0" ∷ [])
+unfolding started_of opening_of script_course records_from strip_bom next_record digits
+steps_taken = refl
 
 -- the counts kept are those of the sheet
 abbrev after_one : List ℕ

@@ -3,12 +3,13 @@ use Rattle.std.proofs.Common.{◌≡◌, ℕ, suc, ◌+◌, ◌-◌, ◌<◌, Li
 use Rattle.std.specs.Io.KnownBytes.{Appends}
 use Rattle.two_copy_steps.specs.Transitions.{MachineState, state_after_events, transition}
 use Rattle.two_copy_steps.specs.declared.events.Event.{Event}
-use Rattle.board_text.specs.Lines.{LineBytes, note_lines}
+use Rattle.board_text.specs.Lines.{LineBytes}
+use Rattle.board_runs.specs.Notes.{note_lines}
 use Rattle.board_text.specs.Output.{WritesUntilStop, WritesRun}
 use Rattle.board_text.specs.Text.{printed_run, text_of}
 use Rattle.board_runs.specs.Traces.{output_lines}
 use Rattle.board_text.specs.declared.stops.Stop.{Stop}
-use Rattle.board_text.proofs.RunFacts.{WrittenTo, lines-then, writes-more, writes-passed, writes-whole}
+use Rattle.board_text.proofs.Face.{lines-then, writes-more, writes-passed, writes-whole, WrittenTo}
 
 -- one event fewer is left
 events-left : (n i : ℕ) (e : Event) → i < n → replicate (n - i) e ≡ e ∷ replicate (n - (i + 1)) e

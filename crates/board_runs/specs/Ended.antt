@@ -3,16 +3,15 @@ use Rattle.std.specs.Prelude.{◌≡◌, ℕ, ◌⊎◌, List, [], ◌∷◌, �
 use Rattle.std.specs.Prelude.{Some, None, Result, Ok, Err}
 use Rattle.std.specs.Io.KnownBytes.{Appends}
 use Rattle.council_core.specs.declared.refusals.Refusal.TheVariants as why
-use Rattle.two_copy_steps.specs.Lawful.{IsPrefix}
 use Rattle.board_text.specs.Lines.{LineBytes, fault_line}
 use Rattle.board_text.specs.Text.{Run, fault_at, output, text_of}
 use Rattle.board_text.specs.declared.faults.Fault.{Fault}
-use Rattle.board_text.specs.Output.{AppendsFront, IsBroken}
+use Rattle.board_text.specs.Output.{AppendsFront, IsBroken, IsPrefixOf}
 
 -- a prefix of the lines of a run, each whole, followed by the line of a fault
 abbrev pub IsBrokenOff : Run → Fault → List ℕ → Type 0
 IsBrokenOff run f text =
-    (front : List LineBytes) × IsPrefix front run.lines × (text ≡ text_of (front ++ fault_line f ∷ []))
+    (front : List LineBytes) × IsPrefixOf front run.lines × (text ≡ text_of (front ++ fault_line f ∷ []))
 
 -- the text of a run whose writes all succeed
 abbrev pub IsOutputOf : Run → List ℕ → Type 0

@@ -1,6 +1,6 @@
 //! The desk: the register and its published sheet, with the indices that readers ask for.
-ghost use Rattle.std.specs.Prelude.{◌≡◌, length, IfOk, IsOkUnless};
-ghost use Rattle.council_core.specs.Sequential.{answered, ordered, published_sheet, response_to};
+ghost use Rattle.std.specs.Prelude.{◌≡◌, length, IfOk, IsOkUnless, OnErr};
+ghost use Rattle.council_core.specs.Sequential.{WouldAccept, answered, ordered, published_sheet, response_to};
 ghost use Rattle.power_index.specs.Indices.{indices_of};
 ghost use Rattle.board_text.specs.declared.stops.Stop.TheVariants as stop;
 
@@ -50,6 +50,7 @@ impl Desk {
         ensures replied { IfOk result (λ a. answered a ≡ (response_to self.old (ordered order)).1) }
         ensures after { IfOk result (λ a. self.new ≡ (response_to self.old (ordered order)).0) }
         ensures memory { IsOkUnless result stop.OutOfMemory }
+        ensures acceptable { OnErr result (WouldAccept self.old order) }
     {
         self.counted = None;
         Ok(self.board.answer(order)?)

@@ -1,15 +1,15 @@
 //! Replays an input on the register.
-ghost use Rattle.std.specs.Prelude.{◌≡◌, map, false, OnOk};
+ghost use Rattle.std.specs.Prelude.{◌≡◌, Some, map, false, OnOk};
 ghost use Rattle.council_core.specs.Sequential.{response_to, published_sheet};
 ghost use Rattle.board_text.specs.Lines.{chair_line, reading_lines, reply_lines};
-ghost use Rattle.board_text.specs.Inputs.{IsOfDevice, ReadsWithin};
+ghost use Rattle.board_text.specs.Streams.{IsOfDevice, RunsWithin, WritesWithin, most_reads};
 ghost use Rattle.board_text.specs.Output.{IsBadLimit, WritesRun};
 ghost use Rattle.board_runs.specs.Ended.{WritesOutput};
 ghost use Rattle.board_text.specs.Sinks.{GoesOn};
 ghost use Rattle.board_text.specs.Requests.{call_of};
-ghost use Rattle.board_text.specs.Text.{in_range, printed_run};
-ghost use Rattle.recording_io.specs.Tapes.{OfInput};
-ghost use Rattle.board_runs.specs.Replays.{replay_start, replay_step, run_of};
+ghost use Rattle.board_text.specs.Text.{in_range, printed_run, request_within};
+ghost use Rattle.recording_io.specs.Tapes.{IsSameWriter, OfInput};
+ghost use Rattle.board_runs.specs.Replays.{replay_effect, replay_start, run_of};
 
 use crate::desks::Desk;
 use crate::runs::run;
@@ -17,15 +17,16 @@ use board_text::{
     Fault, Interpreter, Limits, Output, Request, ScriptStart, Stop, line_of_answer, line_of_chair,
     line_of_reading, request_in,
 };
+use council_core::Refusal;
 use csv::ByteRecord;
 use majority_rule::Majority;
 use power_index::ChairPower;
-use recording_io::RecordingReader;
+use recording_io::{Recorder, RecordingReader};
 use std::alloc::Global;
-use std::io::{Read, Write};
+use std::io::Read;
 
 // Writes the lines of these chairs.
-fn write_chairs<W: Write>(rows: &[ChairPower], out: &mut Output<'_, W>) -> Result<(), Stop>
+fn write_chairs<W: Recorder>(rows: &[ChairPower], out: &mut Output<'_, W>) -> Result<(), Stop>
     ensures wrote { WritesRun out.old.held out.new.held result (printed_run (map chair_line rows.now)) }
     ensures continues { GoesOn out.old out.new }
 {
@@ -36,9 +37,9 @@ fn write_chairs<W: Write>(rows: &[ChairPower], out: &mut Output<'_, W>) -> Resul
 }
 
 // Writes the lines of a reading: the indices of the published sheet.
-fn write_reading<W: Write>(
+fn write_reading<W: Recorder>(
     desk: &mut Desk,
-    reader: u64,
+    reader: u8,
     majority: Majority,
     out: &mut Output<'_, W>,
 ) -> Result<(), Stop>
@@ -54,8 +55,8 @@ fn write_reading<W: Write>(
     written
 }
 
-// Carries out a request whose reader number is in range.
-fn replay_request<W: Write>(
+// Carries out a request.
+fn replay_request<W: Recorder>(
     desk: &mut Desk,
     request: Request,
     out: &mut Output<'_, W>,
@@ -77,22 +78,27 @@ fn replay_request<W: Write>(
 }
 
 impl Interpreter for Desk {
+    type Asked = Request;
+
     ghost opened = { replay_start };
 
-    ghost step = { replay_step };
+    ghost parsed = { request_within };
+
+    ghost effect = { replay_effect };
 
     fn open(alloc: Global, start: ScriptStart, _limits: Limits) -> Result<Desk, Stop> {
         Desk::open(alloc, start.register)
     }
 
-    fn carry_out<W: Write>(
+    fn parse(limits: Limits, row: &ByteRecord) -> Result<Request, Refusal> {
+        request_in(limits, row)
+    }
+
+    fn carry_out<W: Recorder>(
         &mut self,
-        limits: Limits,
-        row: &ByteRecord,
-        number: u32,
+        request: Request,
         out: &mut Output<'_, W>,
     ) -> Result<(), Stop> {
-        let request = request_in(limits, row, number)?;
         replay_request(self, request, out)
     }
 }
@@ -106,13 +112,15 @@ impl Interpreter for Desk {
 ///
 /// At most `READS` reads of the input are made, and none after the read that reported its end or
 /// failed. At most `INTERRUPTIONS` interrupted reads are retried: the next interruption is a failed
-/// read.
+/// read. Each write accepts a byte, or is interrupted and retried, at most `INTERRUPTIONS` times in
+/// all; none follows a write that failed, accepted nothing, or was interrupted once more.
 ///
 /// ```rust
 /// let mut input = RecordingReader::new(text); // `text` is a `&[u8]`
 /// let mut lines = Vec::new(alloc);
+/// let mut out = RecordingWriter::new(&mut lines);
 /// let limits = Limits { readers: 1, journal: MAX_COMMANDS };
-/// let result = replay(alloc, &mut input, &mut lines, limits);
+/// let result = replay(alloc, &mut input, &mut out, limits);
 /// ```
 ///
 /// # Errors
@@ -129,16 +137,19 @@ impl Interpreter for Desk {
 ///   these two and for `BadRecord` above, and 0 for all other faults.
 ///
 /// `OutOfMemory` is possible at any time, and `WriteFault` at any write.
-pub fn replay<R: Read + Drop, W: Write>(
+pub fn replay<R: Read + Drop, W: Recorder>(
     alloc: Global,
     input: &mut RecordingReader<R>,
     out: &mut W,
     limits: Limits,
 ) -> Result<(), Fault>
     ensures wrote { OfInput input.old input.new
-        (λ bytes. WritesOutput (W.contents out.old) (W.contents out.new) result (run_of limits bytes)) }
+        (λ bytes. WritesOutput (Some (W.recorded out.old).bytes) (Some (W.recorded out.new).bytes)
+        result (run_of limits bytes)) }
     ensures limits_first { in_range limits ≡ false → IsBadLimit result × (input.new ≡ input.old) }
-    ensures reads { ReadsWithin IsOfDevice input.old input.new result }
+    ensures reads { RunsWithin IsOfDevice most_reads input.old.calls input.new.calls result }
+    ensures same { IsSameWriter (W.recorded out.old) (W.recorded out.new) }
+    ensures writes { WritesWithin (W.recorded out.old) (W.recorded out.new) }
 {
     run::<Desk, R, W>(alloc, input, out, limits)
 }

@@ -1,29 +1,30 @@
 //! Runs the two-copy machine on a schedule.
-ghost use Rattle.std.specs.Prelude.{◌≡◌, true, false, replicate, OnOk};
+ghost use Rattle.std.specs.Prelude.{◌≡◌, Some, false, replicate, OnOk};
 ghost use Rattle.two_copy_steps.specs.Transitions.{state_after_events, transition};
-ghost use Rattle.board_text.specs.Lines.{note_lines};
-ghost use Rattle.board_text.specs.Inputs.{IsOfDevice, ReadsWithin};
+ghost use Rattle.board_runs.specs.Notes.{note_lines};
+ghost use Rattle.board_text.specs.Streams.{IsOfDevice, RunsWithin, WritesWithin, most_reads};
 ghost use Rattle.board_text.specs.Output.{IsBadLimit, WritesRun};
 ghost use Rattle.board_runs.specs.Ended.{WritesOutput};
 ghost use Rattle.board_text.specs.Sinks.{GoesOn};
 ghost use Rattle.board_text.specs.Text.{in_range, printed_run};
-ghost use Rattle.recording_io.specs.Tapes.{OfInput};
-ghost use Rattle.board_runs.specs.Traces.{events_of, output_lines, trace_of, trace_start, trace_step};
-ghost use Rattle.board_text.specs.Schedules.{is_scheduled};
+ghost use Rattle.recording_io.specs.Tapes.{IsSameWriter, OfInput};
+ghost use Rattle.board_runs.specs.Schedules.{events_within};
+ghost use Rattle.board_runs.specs.Traces.{output_lines, trace_effect, trace_of, trace_start};
 
+use crate::notes::line_of_note;
 use crate::runs::run;
-use board_text::{
-    Act, Fault, Interpreter, Limits, Output, ScriptStart, Stop, act_in, line_of_note,
-};
+use crate::schedules::events_in;
+use board_text::{Fault, Interpreter, Limits, Output, ScriptStart, Stop};
+use council_core::Refusal;
 use csv::ByteRecord;
-use recording_io::RecordingReader;
+use recording_io::{Recorder, RecordingReader};
 use std::alloc::Global;
-use std::io::{Read, Write};
+use std::io::Read;
 use std::marker::Model;
 use two_copy_steps::{Event, Machine, Note};
 
 // Writes the line of an output of the machine, if it has one.
-fn write_note<W: Write>(note: Note, out: &mut Output<'_, W>) -> Result<(), Stop>
+fn write_note<W: Recorder>(note: Note, out: &mut Output<'_, W>) -> Result<(), Stop>
     ensures wrote { WritesRun out.old.held out.new.held result (printed_run (note_lines note)) }
     ensures continues { GoesOn out.old out.new }
 {
@@ -34,7 +35,7 @@ fn write_note<W: Write>(note: Note, out: &mut Output<'_, W>) -> Result<(), Stop>
 }
 
 // Takes the machine through one event.
-fn carry_out_event<W: Write>(
+fn carry_out_event<W: Recorder>(
     machine: &mut Machine,
     event: Event,
     out: &mut Output<'_, W>,
@@ -48,7 +49,7 @@ fn carry_out_event<W: Write>(
 }
 
 // Takes the machine through an event `count` times.
-fn carry_out_events<W: Write>(
+fn carry_out_events<W: Recorder>(
     machine: &mut Machine,
     event: &Event,
     count: u32,
@@ -63,32 +64,6 @@ fn carry_out_events<W: Write>(
         carry_out_event(machine, *event, out)?;
     }
     Ok(())
-}
-
-// Takes the machine through the events of one record.
-fn act_on<W: Write>(
-    machine: &mut Machine,
-    limits: Limits,
-    act: Act,
-    out: &mut Output<'_, W>,
-) -> Result<(), Stop>
-    requires known { is_scheduled limits act ≡ true }
-    ensures wrote { WritesRun out.old.held out.new.held result
-        (printed_run (output_lines machine.old (events_of act))) }
-    ensures state { OnOk result (machine.new ≡ state_after_events machine.old (events_of act)) }
-    ensures continues { GoesOn out.old out.new }
-{
-    match act {
-        Act::Submit(command) => carry_out_events(machine, &Event::Submit(command), 1, out),
-        Act::Publish => carry_out_events(machine, &Event::Publish, 1, out),
-        Act::Writer(count) => carry_out_events(machine, &Event::Writer, count, out),
-        Act::Reader(reader, count) => carry_out_events(
-            machine,
-            &Event::Reader(reader as u8),
-            count,
-            out,
-        ),
-    }
 }
 
 // The machine of a schedule.
@@ -106,9 +81,13 @@ impl Model for Scheduled {
 }
 
 impl Interpreter for Scheduled {
+    type Asked = (Event, u32);
+
     ghost opened = { trace_start };
 
-    ghost step = { trace_step };
+    ghost parsed = { events_within };
+
+    ghost effect = { trace_effect };
 
     fn open(_alloc: Global, start: ScriptStart, limits: Limits) -> Result<Scheduled, Stop> {
         match Machine::start(start.register, limits.readers) {
@@ -117,15 +96,16 @@ impl Interpreter for Scheduled {
         }
     }
 
-    fn carry_out<W: Write>(
+    fn parse(limits: Limits, row: &ByteRecord) -> Result<(Event, u32), Refusal> {
+        events_in(limits, row)
+    }
+
+    fn carry_out<W: Recorder>(
         &mut self,
-        limits: Limits,
-        row: &ByteRecord,
-        number: u32,
+        events: (Event, u32),
         out: &mut Output<'_, W>,
     ) -> Result<(), Stop> {
-        let act = act_in(limits, row, number)?;
-        act_on(&mut self.machine, limits, act, out)
+        carry_out_events(&mut self.machine, &events.0, events.1, out)
     }
 }
 
@@ -134,29 +114,33 @@ impl Interpreter for Scheduled {
 /// event prints the machine's output; an event that only moves an actor prints nothing.
 ///
 /// The contract relates the text written and the result to `trace_of` of the input's bytes, as in
-/// `replay`, and the bounds on reads are those of `replay`.
+/// `replay`, and the bounds on reads and writes are those of `replay`.
 ///
 /// ```rust
 /// let mut input = RecordingReader::new(schedule); // `schedule` is a `&[u8]`
 /// let mut lines = Vec::new(alloc);
+/// let mut out = RecordingWriter::new(&mut lines);
 /// let limits = Limits { readers: 2, journal: 1000 };
-/// let result = trace(alloc, &mut input, &mut lines, limits);
+/// let result = trace(alloc, &mut input, &mut out, limits);
 /// ```
 ///
 /// # Errors
 ///
 /// The faults of `replay`, in the same order and with the same lines. Running out of memory while a
 /// command is submitted ends the run with `OutOfMemory`; the machine prints no line for it.
-pub fn trace<R: Read + Drop, W: Write>(
+pub fn trace<R: Read + Drop, W: Recorder>(
     alloc: Global,
     input: &mut RecordingReader<R>,
     out: &mut W,
     limits: Limits,
 ) -> Result<(), Fault>
     ensures wrote { OfInput input.old input.new
-        (λ bytes. WritesOutput (W.contents out.old) (W.contents out.new) result (trace_of limits bytes)) }
+        (λ bytes. WritesOutput (Some (W.recorded out.old).bytes) (Some (W.recorded out.new).bytes)
+        result (trace_of limits bytes)) }
     ensures limits_first { in_range limits ≡ false → IsBadLimit result × (input.new ≡ input.old) }
-    ensures reads { ReadsWithin IsOfDevice input.old input.new result }
+    ensures reads { RunsWithin IsOfDevice most_reads input.old.calls input.new.calls result }
+    ensures same { IsSameWriter (W.recorded out.old) (W.recorded out.new) }
+    ensures writes { WritesWithin (W.recorded out.old) (W.recorded out.new) }
 {
     run::<Scheduled, R, W>(alloc, input, out, limits)
 }

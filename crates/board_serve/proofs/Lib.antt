@@ -1,3 +1,4 @@
+mod Replies
 pub mod PlanFacts
 pub mod CutFacts
 pub mod WorkFacts

@@ -8,7 +8,7 @@ use Rattle.council_core.specs.declared.calls.Order.TheVariants as order
 use Rattle.council_core.specs.declared.commands.Command.TheVariants.{Open}
 use Rattle.council_core.specs.declared.refusals.Refusal.TheVariants.{BadHeader, BadReader, BadRecord}
 use Rattle.council_core.specs.Rolls.{IsLegal}
-use Rattle.council_core.proofs.WorkedCases.{accepted, published}
+use Rattle.board_serve.proofs.Replies.{accepted, published}
 use Rattle.majority_rule.specs.declared.majorities.Majority.TheVariants.{Half, Seventy, Quorum}
 use Rattle.board_text.specs.Scripts.{script_course}
 use Rattle.board_text.specs.Text.{started_of, fault_at, ledger_at_start, opening_of, printed_run, run_limits, stopped_run}

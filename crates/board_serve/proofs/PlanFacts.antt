@@ -1,32 +1,42 @@
 -- The plan of a run of the threads, from its input.
-use Rattle.std.proofs.Common.{◌≡◌, ◌+◌, ℕ, List, [], ◌∷◌, Result, Ok, Err, refl}
+use Rattle.std.proofs.Common.{◌≡◌, ◌≤◌, ◌+◌, ◌-◌, ℕ, zero, suc, List, [], ◌∷◌, length, Result, Ok, Err, refl, sym, ap, arith}
+use Rattle.council_core.specs.declared.calls.Order.{Order}
 use Rattle.council_core.specs.declared.refusals.Refusal.{Refusal}
-use Rattle.board_text.specs.Lines.{LineBytes}
 use Rattle.board_text.specs.Requests.{Row}
-use Rattle.board_text.specs.Scripts.{Course, started_course, course_of_script, course_step, script_course, turn_of}
+use Rattle.board_text.specs.Scripts.{Course, started_course, course_from, course_of_script, record_course, script_course}
 use Rattle.board_text.specs.Text.{Started, request_within}
 use Rattle.board_text.specs.declared.bounds.Limits.{Limits}
 use Rattle.board_text.specs.declared.faults.Fault.{Fault}
 use Rattle.board_text.specs.declared.requests.Request.{Request}
-use Rattle.board_serve.specs.Plans.{Planned, plan_start, plan_step, two_readers, with_request}
+use Rattle.board_text.specs.declared.requests.Request.TheVariants as ask
+use Rattle.majority_rule.specs.declared.majorities.Majority.{Majority}
+use Rattle.board_serve.specs.Plans.{Planned, ThreadRecords, add_at, plan_effect, plan_start, with_request}
 
--- the plan's effect of a request
-abbrev pub added : Planned → Request → List LineBytes × Planned
-added p q = ([], record p { records = with_request p.records q })
+-- a list behind the last isn't there
+add-behind : {A : Type 0} (index : ℕ) (a : A) (lists : List (List A)) → length lists ≤ index → add_at index a lists ≡ lists
+add-behind index a [] behind = refl
+add-behind zero a (l ∷ ls) behind = absurd (omega (arith, behind))
+add-behind (suc index) a (l ∷ ls) behind = ap (λ rest. l ∷ rest) (add-behind index a ls (omega (arith, behind)))
+
+-- a reading by a reader that a run doesn't have is left out
+pub read-by-none : (orders : List Order) (asked : List (List Majority)) (reader : ℕ) (m : Majority) → length asked ≤ reader - 1
+    → let s : ThreadRecords = record { orders = orders; asked = asked } in s ≡ with_request s (ask.Read reader m)
+read-by-none orders asked reader m none =
+    let P : List (List Majority) → ThreadRecords = λ lists. record { orders = orders; asked = lists } in
+    ap P (sym (add-behind (reader - 1) m asked none))
 
 module _ (lim : Limits) where
-  -- a turn of a plan prints nothing
-  no-line : (p : Planned) (k : ℕ) (r : Result Request Refusal) (more : Planned → Course Planned) → ((t : Planned) → (more t).lines ≡ []) → (course_step k (turn_of (added p) r) more).lines ≡ []
-  no-line p k (Ok q) more rest = rest (added p q).1
+  -- a request that is added to a plan prints nothing
+  no-line : (p : Planned) (k : ℕ) (r : Result Request Refusal) (more : Planned → Course Planned) → ((t : Planned) → (more t).lines ≡ []) → (record_course k r (λ q. course_from (plan_effect p q) more)).lines ≡ []
+  no-line p k (Ok q) more rest = rest (plan_effect p q).1
   no-line p k (Err why) more rest = refl
 
-  no-lines : (p : Planned) (k : ℕ) (rs : List Row) → (script_course (plan_step lim) p k rs).lines ≡ []
+  no-lines : (p : Planned) (k : ℕ) (rs : List Row) → (script_course (request_within lim) plan_effect p k rs).lines ≡ []
   unfolding script_course
   no-lines p k [] = refl
-  no-lines p k (r ∷ rs) =
-      no-line p k (request_within (two_readers lim.journal) r) (λ t. script_course (plan_step lim) t (k + 1) rs) (λ t. no-lines t (k + 1) rs)
+  no-lines p k (r ∷ rs) = no-line p k (request_within lim r) (λ t. script_course (request_within lim) plan_effect t (k + 1) rs) (λ t. no-lines t (k + 1) rs)
 
   -- a plan prints nothing
-  pub plan-lines : (start : Result Started Fault) → (started_course (course_of_script plan_start plan_step lim) start).lines ≡ []
+  pub plan-lines : (start : Result Started Fault) → (started_course (course_of_script plan_start request_within plan_effect lim) start).lines ≡ []
   plan-lines (Err f) = refl
   plan-lines (Ok b) = no-lines (plan_start lim b.0) b.1 b.2

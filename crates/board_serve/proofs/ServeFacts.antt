@@ -1,26 +1,26 @@
 -- What `serve` has written, at each of its ends.
-use Rattle.std.proofs.Common.{◌≡◌, inl, inr, ℕ, Bool, true, false, List, [], ◌∷◌, ◌++◌, length, map, Option, Some, None, Result, Ok, Err, refl, sym, ap, ◌∙◌, subst, append_assoc}
+use Rattle.std.proofs.Common.{◌≡◌, ◌⊎◌, inl, inr, ℕ, Bool, true, false, List, [], ◌∷◌, ◌++◌, length, map, Option, Some, None, Result, Ok, Err, refl, sym, ap, ◌∙◌, subst, append_assoc}
 use Rattle.std.proofs.KnownBytes.{Appends-nil, Appends-trans}
 use Rattle.std.proofs.lemmas.List.{append-nil}
 use Rattle.std.specs.Io.KnownBytes.{Appends}
 use Rattle.council_core.specs.Sequential.{Reply, answered}
 use Rattle.council_core.specs.declared.refusals.Refusal.TheVariants as why
 use Rattle.board_text.specs.Lines.{LineBytes, audit_line, fault_line, reply_line}
-use Rattle.two_copy_steps.specs.Lawful.{IsPrefix}
-use Rattle.board_text.specs.Output.{AppendsFront, AppendsLines, Ends, EndsRun, EndsStopped, IsBroken, WritesRun, WritesUntilStop, Writes, fault_of}
+use Rattle.board_text.specs.Output.{AppendsFront, AppendsLines, Ends, EndsRun, EndsStopped, IsBroken, IsPrefixOf, Writes, WritesRun, WritesUntilStop, fault_of}
 use Rattle.board_text.specs.Text.{Run, end_lines, fault_at, line_text, output, printed_run, stopped_run, text_of, with_lines}
 use Rattle.board_text.specs.declared.faults.Fault.{Fault}
 use Rattle.council_core.specs.declared.calls.Answer.{Answer}
 use Rattle.board_text.specs.declared.stops.Stop.{Stop}
 use Rattle.board_text.specs.declared.stops.Stop.TheVariants as stop
-use Rattle.board_text.proofs.RunFacts.{appends-same, front-before, front-none, front-then, line-then, writes-after, writes-more, writes-passed, writes-spelled, text-after}
+use Rattle.board_text.proofs.Face.{appends-same, front-before, front-none, front-then, line-then, text-after, writes-after, writes-more, writes-passed, writes-spelled}
 use Rattle.board_text.specs.Scripts.{Course, run_in}
 use Rattle.std.specs.Result.{result_err}
 use Rattle.board_serve.specs.Outcomes.{IsServed, ServedLegalRecords, reported_by}
 use Rattle.board_serve.specs.Plans.{Planned}
-use Rattle.board_serve.specs.Serving.{Differs, IsReportStop, IsServeRun, WritesServeOutput, WritesServeRun, WritesServeUntilStop, audited_run, count_lines, lines_of_work, work_lines}
-use Rattle.board_serve.specs.Work.{IsHeldUp}
+use Rattle.board_serve.specs.Serving.{Differs, EndsHeldUp, IsReportStop, IsServeRun, WritesServeOutput, WritesServeRun, WritesServeUntilStop, audited_run, count_lines, lines_of_work, work_lines}
+use Rattle.board_serve.specs.Work.{IsHeldUp, StopsAll}
 use Rattle.board_serve.specs.declared.serving.Served.{Served}
+use Rattle.board_serve.proofs.WorkFacts.{all-held}
 
 abbrev answer_line : Answer → LineBytes
 answer_line a = reply_line (answered a)
@@ -111,9 +111,25 @@ after-nothing a b c (Err e) spec nothing p = (p.0, p.1, stops-on (fault_of e) p.
     stops-on (Some f) t = (t.0, Appends-trans a b c [] _ nothing t.1)
 
 -- a thread was held up
-pub held-serve : (a : Option (List ℕ)) (e d : Stop) (p : Planned) → d ≡ e → IsHeldUp e → WritesServeRun a a (Err d) (Ok p)
-held-serve a e d p same (inl memory) = rw (same, memory) (stopped_run (fault_at why.OutOfMemory 0), inl (refl, inl refl), (refl, Appends-nil a))
-held-serve a e d p same (inr closed) = rw (same, closed) (stopped_run (fault_at why.GateClosed 0), inr (inl (refl, refl)), (refl, Appends-nil a))
+pub held-serve : (a : Option (List ℕ)) (e d : Stop) (p : Planned) → d ≡ e → StopsAll p.start p.records.orders e → WritesServeRun a a (Err d) (Ok p)
+held-serve a e d p same stops = rw same (by-held (all-held p.start p.records.orders e stops))
+  where
+    by-held : IsHeldUp e → WritesServeRun a a (Err e) (Ok p)
+    by-held (inl memory) = rw memory (stopped_run (fault_at why.OutOfMemory 0), inl (refl, inl refl), (refl, Appends-nil a))
+    by-held (inr closed) =
+        let by : StopsAll p.start p.records.orders (stop.Input (fault_at why.GateClosed 0)) = subst (StopsAll p.start p.records.orders) closed stops in
+        rw closed (stopped_run (fault_at why.GateClosed 0), inr (inl (refl, (_, by, refl))), (refl, Appends-nil a))
+
+-- the fault of what stopped the threads
+pub stopped-fault : (p : Planned) (front : List LineBytes) (f : Fault) → EndsHeldUp p front f → (f ≡ fault_at why.OutOfMemory 0) ⊎ (f ≡ fault_at why.GateClosed 0)
+stopped-fault p front f (none, (e, stops, is)) = by-held (all-held p.start p.records.orders e stops)
+  where
+    same : {g : Fault} → fault_of e ≡ Some g → f ≡ g
+    same told = let x : Some f ≡ Some _ = sym is ∙ told in cc x
+
+    by-held : IsHeldUp e → (f ≡ fault_at why.OutOfMemory 0) ⊎ (f ≡ fault_at why.GateClosed 0)
+    by-held (inl memory) = inl (same (ap fault_of memory))
+    by-held (inr closed) = inr (same (ap fault_of closed))
 
 -- the run of a plan that was carried out
 abbrev pub done_run : Planned → Bool → Run
@@ -126,7 +142,7 @@ is-run p false differs = inr (inr (append-nil (work_lines p), refl, differs refl
 -- a prefix of the lines is a prefix of the output
 cut-output : (a b : Option (List ℕ)) (run : Run) → AppendsFront a b (text_of run.lines) → AppendsFront a b (output run)
 cut-output a b run t =
-    let P : List ℕ → Type 0 = λ text. IsPrefix t.0 text in
+    let P : List ℕ → Type 0 = λ text. IsPrefixOf t.0 text in
     (t.0, subst P (sym (text-after run.lines (end_lines run.end))) (front-before t.0 (text_of run.lines) (text_of (end_lines run.end)) t.1), t.2)
 
 -- the report was written

@@ -4,7 +4,7 @@ use Rattle.council_core.specs.Rolls.{IsLegal}
 use Rattle.council_core.specs.Sequential.{answered}
 use Rattle.council_core.specs.declared.calls.Answer.{Answer}
 use Rattle.council_core.specs.declared.calls.Order.TheVariants as order
-use Rattle.council_core.proofs.WorkedCases.{published}
+use Rattle.board_serve.proofs.Replies.{published}
 use Rattle.majority_rule.specs.declared.majorities.Majority.TheVariants.{Half, Seventy}
 use Rattle.two_copy_steps.specs.Lawful.{last_front}
 use Rattle.board_share.specs.Analysts.{AnalystSeen}
@@ -20,12 +20,17 @@ use Rattle.board_serve.specs.declared.serving.Served.{Served}
 use Rattle.board_serve.specs.declared.threads.AllWork.{AllWork}
 use Rattle.board_serve.specs.declared.writer_work.WriterWork.{WriterWork}
 
--- of a sheet on which chair 1 has all 10 votes one coalition wins, by half and by 70 per cent
-abbrev one_chair : List ℕ
-one_chair = 11 ∷ replicate 31 0 ++ 10 ∷ 2 ∷ []
+-- of two chairs with 60 and 40 of 100 votes, two coalitions win by half, and one by 70 per cent; of three with 60, 30
+-- and 10, four and three
+abbrev two_chairs : List ℕ
+two_chairs = 61 ∷ 41 ∷ replicate 30 0 ++ 100 ∷ 2 ∷ []
 
-won : (omegas (Half ∷ Seventy ∷ []) (one_chair ∷ one_chair ∷ []) ≡ 1 ∷ 1 ∷ []) × (omegas [] (one_chair ∷ []) ≡ []) × (omegas (Half ∷ []) [] ≡ [])
-won = (refl, refl, refl)
+abbrev three_chairs : List ℕ
+three_chairs = 61 ∷ 31 ∷ 11 ∷ replicate 29 0 ++ 100 ∷ 3 ∷ []
+
+won : (omegas (Half ∷ Seventy ∷ []) (two_chairs ∷ three_chairs ∷ []) ≡ 2 ∷ 3 ∷ []) × (omegas (Seventy ∷ Half ∷ []) (two_chairs ∷ three_chairs ∷ []) ≡ 1 ∷ 4 ∷ [])
+    × (omegas [] (two_chairs ∷ []) ≡ []) × (omegas (Half ∷ []) [] ≡ [])
+won = (refl, refl, refl, refl)
 
 -- a writer without orders has answered nothing, has no cut, and is the register that it was, over the same table
 module _ (before : Publisher) (done : WriterWork) (h : IsWritten before [] done) where
@@ -54,7 +59,7 @@ module _ (done : ReaderWork) (h : IsRead (Half ∷ []) done) where
   one_sheet : length done.sheets.items ≡ 1
   one_sheet = h.count
 
-  its_omega : done.sheets.items ≡ one_chair ∷ [] → done.winning.items ≡ 1 ∷ []
+  its_omega : done.sheets.items ≡ two_chairs ∷ [] → done.winning.items ≡ 2 ∷ []
   its_omega is = subst (λ (sheets : List (List ℕ)). done.winning.items ≡ omegas (Half ∷ []) sheets) is h.winning
 
 -- its record has grown by its sheets, each legal, and none older than the one before; it is the same reader of the same table
@@ -65,10 +70,10 @@ module _ (before : AnalystSeen) (done : ReaderWork) (h : IsReadFrom before done)
   legal_sheets : All (IsLegalSheet before.reader.opening) done.sheets.items
   legal_sheets = h.legal
 
-  none_older : before.reader.readings ≡ [] → done.sheets.items ≡ one_chair ∷ (replicate 33 0 ++ 1 ∷ []) ∷ [] → ⊥
+  none_older : before.reader.readings ≡ [] → done.sheets.items ≡ two_chairs ∷ (replicate 33 0 ++ 1 ∷ []) ∷ [] → ⊥
   none_older none are =
       let rises : IsRising 0 done.sheets.items = subst (λ (earlier : List (List ℕ)). IsRising (last_front 0 earlier) done.sheets.items) none h.rising in
-      let falls : IsRising 0 (one_chair ∷ (replicate 33 0 ++ 1 ∷ []) ∷ []) = subst (IsRising 0) are rises in
+      let falls : IsRising 0 (two_chairs ∷ (replicate 33 0 ++ 1 ∷ []) ∷ []) = subst (IsRising 0) are rises in
       omega (arith, falls.1.0)
 
   no_step_without_a_sheet : done.sheets.items ≡ [] → Adds (is_readers (number_of before.reader)) [] before.reader.history done.analyst.reader.history

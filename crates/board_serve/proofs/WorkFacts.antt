@@ -4,7 +4,9 @@ use Rattle.std.proofs.lemmas.List.{append-nil, length-append, map-append, replic
 use Rattle.std.proofs.lemmas.List.Elements.{All-append, All-cons, All-nil}
 use Rattle.std.proofs.lemmas.Grind.{flat_map-append}
 use Rattle.std.proofs.lemmas.Option.{slice_get-get_or}
-use Rattle.std.specs.Prelude.{⊤, IfErr}
+use Rattle.std.specs.Option.{option_or}
+use Rattle.std.specs.Prelude.{⊤, IfErr, IfSome, Option, None}
+use Rattle.std.specs.Result.{result_err}
 use Rattle.council_core.specs.Ledgers.{verdict_of}
 use Rattle.council_core.specs.Sequential.{Sequential, Call, Reply, answered, ordered, read, response_to, replies_of, state_after, submit_response}
 use Rattle.council_core.specs.declared.commands.Command.{Command}
@@ -18,16 +20,16 @@ use Rattle.two_copy_steps.specs.declared.events.Event.TheVariants.{Reader}
 use Rattle.board_share.specs.Analysts.{AnalystSeen}
 use Rattle.board_share.specs.Histories.{Adds, is_readers}
 use Rattle.board_share.specs.Readers.{IsLegalSheet, TookSteps, last_front_of, number_of}
-use Rattle.board_share.proofs.Histories.{longer_none}
-use Rattle.board_share.proofs.Prefixes.{adds_then}
+use Rattle.board_share.proofs.Face.{adds_then, longer_none}
 use Rattle.board_share.specs.Writers.{Publisher}
 use Rattle.council_core.specs.declared.calls.Answer.{Answer}
 use Rattle.board_text.specs.declared.stops.Stop.{Stop}
-use Rattle.board_text.proofs.IndexFacts.{StandsAt, first-more}
-use Rattle.board_serve.specs.Work.{CanAsk, HasWritten, IsHeldUp, IsRead, IsReadFrom, IsRising, IsWritten, StopsAt, StopsWithin, cuts_of, cuts_of_reply, omega_at, omegas, register_of}
+use Rattle.board_text.proofs.Face.{first-more, StandsAt}
+use Rattle.board_serve.specs.Work.{CanAsk, HasAsked, HasWritten, IsClosed, IsHeldUp, IsRead, IsReadFrom, IsRising, IsWritten, StopsAll, StopsAt, StopsWithin, cuts_of, cuts_of_reply, ends_of, omega_at, omegas, register_of, returned_stop}
 use Rattle.council_core.specs.declared.calls.Order.{Order}
 use Rattle.council_core.specs.declared.calls.Order.TheVariants as order
 use Rattle.board_serve.specs.declared.reader_work.ReaderWork.{ReaderWork}
+use Rattle.board_serve.specs.declared.threads.AllWork.{AllWork}
 use Rattle.board_serve.specs.declared.writer_work.WriterWork.{WriterWork}
 
 -- the replies to one call more
@@ -179,10 +181,39 @@ stopped-at s now orders i o e returned at is same stops =
     (i, o, slice_get-get_or orders i o at.within ∙ ap (λ (x : Order). Some x) (sym at.here), subst (λ (z : Sequential × Stop). StopsAt z.0 o z.1) (λ k. (is k, sym same k)) stops)
 
 -- a writer that was stopped was held up
-pub stopped-held : (s : Sequential) (orders : List Order) (e : Stop) → StopsWithin s orders e → IsHeldUp e
+stopped-held : (s : Sequential) (orders : List Order) (e : Stop) → StopsWithin s orders e → IsHeldUp e
 stopped-held s orders e (place, order, here, inl lacks) = inl lacks.0
 stopped-held s orders e (place, order, here, inr closed) = inr closed
 
-pub written-held : (work : WriterWork) (r : Result WriterWork Stop) → HasWritten work r → IfErr r IsHeldUp
-written-held work (Ok done) h = tt
-written-held work (Err e) h = stopped-held (register_of work.writer) work.orders.items e h
+-- what stopped the work of all: out of memory, or a closed gate
+pub all-held : (s : Sequential) (orders : List Order) (e : Stop) → StopsAll s orders e → IsHeldUp e
+all-held s orders e (inl memory) = inl memory
+all-held s orders e (inr (ends, can, is)) = by-writer ends.writer can.writer is
+  where
+    by-second : (second : Option Stop) → IfSome second IsClosed → second ≡ Some e → IsHeldUp e
+    by-second None closed same = cc same
+    by-second (Some d) closed same = let e_is : d ≡ e = cc same in inr (subst IsClosed e_is closed)
+
+    by-first : (first : Option Stop) → IfSome first IsClosed → option_or first ends.second ≡ Some e → IsHeldUp e
+    by-first None closed same = by-second ends.second can.second same
+    by-first (Some d) closed same = let e_is : d ≡ e = cc same in inr (subst IsClosed e_is closed)
+
+    by-writer : (writer : Option Stop) → IfSome writer (StopsWithin s orders) → option_or writer (option_or ends.first ends.second) ≡ Some e → IsHeldUp e
+    by-writer None stops same = by-first ends.first can.first same
+    by-writer (Some d) stops same = let e_is : d ≡ e = cc same in subst IsHeldUp e_is (stopped-held s orders d stops)
+
+writer-end : (work : WriterWork) (r : Result WriterWork Stop) → HasWritten work r → IfSome (result_err r) (StopsWithin (register_of work.writer) work.orders.items)
+writer-end work (Ok done) h = tt
+writer-end work (Err e) h = h
+
+reader-end : (work : ReaderWork) (r : Result ReaderWork Stop) → HasAsked work r → IfSome (result_err r) IsClosed
+reader-end work (Ok done) h = tt
+reader-end work (Err e) h = h
+
+-- the error of all, where all threads were started
+pub all-stopped : (work : AllWork) (writer : Result WriterWork Stop) (first second : Result ReaderWork Stop) (r : Result AllWork Stop)
+    → HasWritten work.writer writer → HasAsked work.first first → HasAsked work.second second
+    → IfErr r (λ e. returned_stop (ends_of writer first second) ≡ Some e) → IfErr r (StopsAll (register_of work.writer.writer) work.writer.orders.items)
+all-stopped work writer first second (Ok d) w a b is = tt
+all-stopped work writer first second (Err e) w a b is =
+    inr (ends_of writer first second, record { writer = writer-end work.writer writer w; first = reader-end work.first first a; second = reader-end work.second second b }, is)

@@ -7,7 +7,7 @@ use Rattle.std.specs.Io.KnownBytes.{Appends}
 use Rattle.council_core.specs.Rolls.{IsLegal}
 use Rattle.council_core.specs.Sequential.{Sequential, answered}
 use Rattle.council_core.specs.declared.calls.Answer.{Answer}
-use Rattle.council_core.proofs.WorkedCases.{accepted, published, refused}
+use Rattle.board_serve.proofs.Replies.{accepted, published, refused}
 use Rattle.council_core.specs.declared.calls.Order.TheVariants as order
 use Rattle.council_core.specs.declared.commands.Command.TheVariants.{Close, Open}
 use Rattle.council_core.specs.declared.refusals.Refusal.TheVariants as why
@@ -22,10 +22,13 @@ use Rattle.board_text.specs.declared.stops.Stop.{Stop}
 use Rattle.board_text.specs.declared.stops.Stop.TheVariants as stop
 use Rattle.board_serve.specs.Outcomes.{CanBeFound, IsOutcome, IsServed, omegas_by, sheets_of, winning_of}
 use Rattle.board_serve.specs.Plans.{Planned}
-use Rattle.board_serve.specs.Serving.{Differs, EndsAfter, WritesServeOutput, WritesAllOfServe, audited_run, work_lines}
+use Rattle.board_serve.specs.Serving.{Differs, EndsAfter, EndsHeldUp, WritesServeOutput, WritesAllOfServe, audited_run, work_lines}
 use Rattle.board_serve.specs.declared.serving.Served.{Served}
-use Rattle.board_serve.specs.Work.{IsHeldUp, IsRising, StopsAt, StopsWithin, cuts_of}
+use Rattle.board_serve.specs.Work.{CanEnd, IsClosed, IsHeldUp, IsRising, StopsAt, StopsWithin, ThreadEnds, cuts_of, returned_stop}
 use Rattle.board_serve.specs.declared.plan.TheConstants.{SERVED_READERS}
+use Rattle.board_serve.proofs.ServeFacts.{stopped-fault}
+use Rattle.std.specs.Option.{option_or}
+use Rattle.std.specs.Prelude.{IfSome}
 
 -- the number of readers of `serve`, so that a changed constant is rejected
 readers : SERVED_READERS ≡ 2
@@ -49,18 +52,19 @@ other_fault a b apart e = apart (ap (λ (f : Fault). f.code) e)
 no_mismatch_at_first : EndsAfter (Ok one_reading) [] (Some (fault_at why.Mismatch 0)) → ⊥
 no_mismatch_at_first (inl (none, inl e)) = other_fault 24 10 (λ e. omega (arith, e)) e
 no_mismatch_at_first (inl (none, inr e)) = other_fault 24 19 (λ e. omega (arith, e)) e
-no_mismatch_at_first (inr (inl closed)) = other_fault 24 27 (λ e. omega (arith, e)) closed.1
+no_mismatch_at_first (inr (inl stopped)) =
+    ⊎_elim (other_fault 24 10 (λ e. omega (arith, e))) (other_fault 24 27 (λ e. omega (arith, e))) (stopped-fault one_reading [] (fault_at why.Mismatch 0) stopped)
 no_mismatch_at_first (inr (inr other)) = has_lines (sym other.0)
 
 mismatch_differs : EndsAfter (Ok one_reading) (work_lines one_reading) (Some (fault_at why.Mismatch 0)) → Differs one_reading
 mismatch_differs (inl broken) = absurd (has_lines broken.0)
-mismatch_differs (inr (inl closed)) = absurd (has_lines closed.0)
+mismatch_differs (inr (inl stopped)) = absurd (has_lines stopped.0)
 mismatch_differs (inr (inr other)) = other.2
 
 -- after the lines of the work no gate closes, and memory doesn't run out
 nothing_behind : (f : Fault) → (f ≡ fault_at why.Mismatch 0 → ⊥) → EndsAfter (Ok one_reading) (work_lines one_reading) (Some f) → ⊥
 nothing_behind f apart (inl broken) = has_lines broken.0
-nothing_behind f apart (inr (inl closed)) = has_lines closed.0
+nothing_behind f apart (inr (inl stopped)) = has_lines stopped.0
 nothing_behind f apart (inr (inr other)) = apart other.1
 
 no_gate_behind : EndsAfter (Ok one_reading) (work_lines one_reading) (Some (fault_at why.GateClosed 0)) → ⊥
@@ -115,6 +119,37 @@ closed_at_a_publication = inr refl
 
 nothing_to_stop_at : (e : Stop) → StopsWithin register [] e → ⊥
 nothing_to_stop_at e stops = none-some stops.1 stops.2
+
+-- of a writer without memory and a reader at a closed gate the run ends in the want of memory, and in no closed gate
+abbrev closed : Stop
+closed = stop.Input (fault_at why.GateClosed 0)
+
+abbrev lack_and_gate : ThreadEnds
+lack_and_gate = record { writer = Some stop.OutOfMemory; first = Some closed; second = None }
+
+memory_first : returned_stop lack_and_gate ≡ Some stop.OutOfMemory
+memory_first = refl
+
+no_gate_without_memory : returned_stop lack_and_gate ≡ Some closed → ⊥
+no_gate_without_memory e = cc e
+
+-- so where a run ends in a closed gate, the writer had memory
+closed_with_memory : (ends : ThreadEnds) → returned_stop ends ≡ Some closed → ends.writer ≡ Some stop.OutOfMemory → ⊥
+closed_with_memory ends is lacks =
+    let by : Some stop.OutOfMemory ≡ Some closed = ap (λ (w : Option Stop). option_or w (option_or ends.first ends.second)) (sym lacks) ∙ is in cc by
+
+-- a gate that is closed to a reader ends the run where the writer did its work, and no reader lacks memory
+closed_to_a_reader : EndsHeldUp one_reading [] (fault_at why.GateClosed 0)
+closed_to_a_reader = (refl, (closed, inr (record { writer = None; first = Some closed; second = None }, record { writer = tt; first = refl; second = tt }, refl), refl))
+
+no_memory_to_read : (ends : ThreadEnds) → ends.first ≡ Some stop.OutOfMemory → CanEnd register [] ends → ⊥
+no_memory_to_read ends lacks can =
+    let P : Option Stop → Type 0 = λ end. IfSome end IsClosed in
+    let e : IsClosed stop.OutOfMemory = subst P lacks can.first in cc e
+
+-- and without orders nothing stops the writer
+no_order_to_stop_at : (ends : ThreadEnds) (e : Stop) → ends.writer ≡ Some e → CanEnd register [] ends → ⊥
+no_order_to_stop_at ends e is can = nothing_to_stop_at e (subst (λ (end : Option Stop). IfSome end (StopsWithin register [])) is can.writer)
 
 -- the cuts are the numbers that publications answered, also one that published nothing new
 cuts_of_two : cuts_of (accepted 1 ∷ published 1 ∷ refused why.ChairOpen ∷ published 1 ∷ []) ≡ 1 ∷ 1 ∷ []

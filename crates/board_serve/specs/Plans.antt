@@ -3,8 +3,8 @@ use Rattle.std.specs.Prelude.{ℕ, zero, suc, ◌-◌, ◌++◌, List, [], ◌�
 use Rattle.council_core.specs.Ledgers.{Ledger}
 use Rattle.council_core.specs.Sequential.{Sequential}
 use Rattle.majority_rule.specs.declared.majorities.Majority.{Majority}
-use Rattle.board_text.specs.Requests.{Row}
-use Rattle.board_text.specs.Scripts.{Turn, interpreted_course, turn_of}
+use Rattle.board_text.specs.Lines.{LineBytes}
+use Rattle.board_text.specs.Scripts.{interpreted_course}
 use Rattle.board_text.specs.Text.{request_within, unpublished_register}
 use Rattle.board_text.specs.declared.bounds.Limits.{Limits}
 use Rattle.board_text.specs.declared.faults.Fault.{Fault}
@@ -53,12 +53,11 @@ with_request s (ask.Read reader m) = record s { asked = add_at (reader - 1) m s.
 abbrev pub plan_start : Limits → Ledger → Planned
 plan_start lim ledger = plan_over ledger no_records
 
--- a record is added to the plan and prints nothing
-abbrev pub plan_step : Limits → Planned → Row → Turn Planned
-plan_step lim p row =
-    turn_of (λ q. ([], record p { records = with_request p.records q })) (request_within (two_readers lim.journal) row)
+-- a request is added to the plan and prints nothing
+abbrev pub plan_effect : Planned → Request → List LineBytes × Planned
+plan_effect p q = ([], record p { records = with_request p.records q })
 
 -- the plan of these bytes, or their fault: all records of the script are looked at before any is
 -- carried out
 abbrev pub plan_of : ℕ → List ℕ → Result Planned Fault
-plan_of journal bytes = (interpreted_course plan_start plan_step (two_readers journal) bytes).end
+plan_of journal bytes = (interpreted_course plan_start request_within plan_effect (two_readers journal) bytes).end

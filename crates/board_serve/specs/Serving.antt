@@ -12,6 +12,7 @@ use Rattle.board_text.specs.declared.stops.Stop.{Stop}
 use Rattle.board_text.specs.declared.stops.Stop.TheVariants as stop
 use Rattle.board_serve.specs.Outcomes.{IsServed, ServedLegalRecords, reported_by}
 use Rattle.board_serve.specs.Plans.{Planned}
+use Rattle.board_serve.specs.Work.{StopsAll}
 use Rattle.board_serve.specs.declared.serving.Served.{Served}
 
 -- the lines with the number of readings, from this reader number on
@@ -48,9 +49,10 @@ EndsInInputFault g front f = (front ≡ []) × (f ≡ g)
 abbrev pub EndsBroken : List LineBytes → Fault → Type 0
 EndsBroken front f = (front ≡ []) × IsBroken f
 
--- a closed gate ends a run before any line
-abbrev pub EndsClosed : List LineBytes → Fault → Type 0
-EndsClosed front f = (front ≡ []) × (f ≡ fault_at why.GateClosed 0)
+-- what stopped the threads ends a run before any line: out of memory, or else a closed gate
+abbrev pub EndsHeldUp : Planned → List LineBytes → Fault → Type 0
+EndsHeldUp p front f =
+    (front ≡ []) × ((e : Stop) × StopsAll p.start p.records.orders e × (fault_of e ≡ Some f))
 
 -- a mismatch of readings that differ ends a run after the lines of the work
 abbrev pub EndsMismatched : Planned → List LineBytes → Fault → Type 0
@@ -61,7 +63,7 @@ abbrev pub EndsAfter : Result Planned Fault → List LineBytes → Option Fault 
 EndsAfter (Err g) front None = ⊥
 EndsAfter (Err g) front (Some f) = EndsInInputFault g front f ⊎ EndsBroken front f
 EndsAfter (Ok p) front None = front ≡ work_lines p ++ audit_line ∷ []
-EndsAfter (Ok p) front (Some f) = EndsBroken front f ⊎ EndsClosed front f ⊎ EndsMismatched p front f
+EndsAfter (Ok p) front (Some f) = EndsBroken front f ⊎ EndsHeldUp p front f ⊎ EndsMismatched p front f
 
 -- a run that a plan, or the fault of the input, allows
 abbrev pub IsServeRun : Result Planned Fault → Run → Type 0

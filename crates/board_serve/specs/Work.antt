@@ -1,11 +1,13 @@
 -- The work of the threads of a run.
 use Rattle.std.specs.Prelude.{◌≡◌, ℕ, ◌≤◌, ◌*◌, ◌⊎◌, ◌++◌, List, [], ◌∷◌, length, map, replicate, All}
-use Rattle.std.specs.Prelude.{slice_get, take, vec_len, Some, Result, Ok, Err}
+use Rattle.std.specs.Prelude.{slice_get, take, vec_len, IfSome, Option, Some, Result, Ok, Err}
 use Rattle.std.specs.List.{flat_map}
+use Rattle.std.specs.Option.{option_or}
+use Rattle.std.specs.Result.{result_err}
 use Rattle.std.specs.Vec.{vec_capacity}
 use Rattle.council_core.specs.Coalitions.{omega_of}
-use Rattle.council_core.specs.Ledgers.{verdict_of}
-use Rattle.council_core.specs.Sequential.{Sequential, Reply, answered, ordered, reading, replies_of, state_after}
+use Rattle.council_core.specs.Sequential.{Sequential, Reply, WouldAccept, answered, ordered, reading, replies_of}
+use Rattle.council_core.specs.Sequential.{state_after}
 use Rattle.council_core.specs.Sheets.{front_of, open_chairs}
 use Rattle.council_core.specs.declared.refusals.Refusal.TheVariants as why
 use Rattle.majority_rule.specs.Winning.{rule_of}
@@ -21,7 +23,6 @@ use Rattle.board_text.specs.Text.{fault_at}
 use Rattle.board_text.specs.declared.stops.Stop.{Stop}
 use Rattle.board_text.specs.declared.stops.Stop.TheVariants as stop
 use Rattle.council_core.specs.declared.calls.Order.{Order}
-use Rattle.council_core.specs.declared.calls.Order.TheVariants as order
 use Rattle.council_core.specs.declared.calls.Answer.TheVariants as answer
 use Rattle.board_serve.specs.declared.reader_work.ReaderWork.{ReaderWork}
 use Rattle.board_serve.specs.declared.threads.AllWork.{AllWork}
@@ -50,11 +51,6 @@ IsClosed e = e ≡ stop.Input (fault_at why.GateClosed 0)
 abbrev pub IsHeldUp : Stop → Type 0
 IsHeldUp e = (e ≡ stop.OutOfMemory) ⊎ IsClosed e
 
--- the order is a command that the register would accept
-abbrev pub WouldAccept : Sequential → Order → Type 0
-WouldAccept s (order.Submit command) = verdict_of s.ledger command ≡ Ok tt
-WouldAccept s order.Publish = ⊥
-
 -- the error keeps this order from being carried out: no memory for a command that the register would
 -- accept, or a closed gate
 abbrev pub StopsAt : Sequential → Order → Stop → Type 0
@@ -64,6 +60,32 @@ StopsAt s order e = ((e ≡ stop.OutOfMemory) × WouldAccept s order) ⊎ IsClos
 abbrev pub StopsWithin : Sequential → List Order → Stop → Type 0
 StopsWithin s orders e = (place : ℕ) × (order : Order) × (slice_get orders place ≡ Some order)
     × StopsAt (state_after s (map ordered (take place orders))) order e
+
+-- how the threads of the writer and of both readers ended: each by the error that stopped it, or with its work done
+pub record ThreadEnds : Type 0 where
+  pub writer : Option Stop
+  pub first : Option Stop
+  pub second : Option Stop
+
+abbrev pub ends_of : {A B : Type 0} → Result A Stop → Result B Stop → Result B Stop → ThreadEnds
+ends_of writer first second =
+    record { writer = result_err writer; first = result_err first; second = result_err second }
+
+-- the threads can end so over this register: a reader is stopped by a closed gate alone
+pub record CanEnd (start : Sequential) (orders : List Order) (ends : ThreadEnds) : Type 0 where
+  pub writer : IfSome ends.writer (StopsWithin start orders)
+  pub first : IfSome ends.first IsClosed
+  pub second : IfSome ends.second IsClosed
+
+-- the error that is returned: the writer's, else that of reader 1, else that of reader 2. Only the writer's can be out
+-- of memory, so that comes before a closed gate
+abbrev pub returned_stop : ThreadEnds → Option Stop
+returned_stop ends = option_or ends.writer (option_or ends.first ends.second)
+
+-- the error that stops the work of all threads: out of memory, if one can't be started, or the returned one
+abbrev pub StopsAll : Sequential → List Order → Stop → Type 0
+StopsAll start orders e =
+    (e ≡ stop.OutOfMemory) ⊎ ((ends : ThreadEnds) × CanEnd start orders ends × (returned_stop ends ≡ Some e))
 
 -- nothing is stored yet, and there is room for each of the orders
 pub record CanWrite (work : WriterWork) : Type 0 where

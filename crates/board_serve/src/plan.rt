@@ -1,15 +1,14 @@
 //! A plan: the register at the start of a script, and the script's records by thread.
-ghost use Rattle.std.specs.Prelude.{◌≡◌, ◌∷◌, [], true, length, map, OnOk};
-ghost use Rattle.board_text.specs.Text.{is_served};
-ghost use Rattle.board_serve.specs.Plans.{no_records, plan_start, plan_step, plan_over, records_of};
-ghost use Rattle.board_serve.specs.Plans.{two_readers, with_request};
+ghost use Rattle.std.specs.Prelude.{◌≡◌, ◌∷◌, [], length, map, OnOk};
+ghost use Rattle.board_text.specs.Text.{request_within};
+ghost use Rattle.board_serve.specs.Plans.{no_records, plan_effect, plan_over, plan_start, records_of, with_request};
 
 use board_text::{Interpreter, Limits, Output, Request, ScriptStart, Stop, request_in};
-use council_core::{ChairId, Command, Order, Register};
+use council_core::{ChairId, Command, Order, Refusal, Register};
 use csv::ByteRecord;
 use majority_rule::Majority;
+use recording_io::Recorder;
 use std::alloc::{AllocError, Global};
-use std::io::Write;
 use std::marker::Model;
 
 // The number of readers of a run.
@@ -33,9 +32,9 @@ impl Records {
         }
     }
 
-    // Appends a request to the records of the writer or of its reader.
+    // Appends a request to the records of the writer or of its reader, if that is one of the readers
+    // of a run.
     fn add(&mut self, request: Request) -> Result<(), AllocError>
-        requires served { is_served (two_readers 0) request ≡ true }
         ensures added { OnOk result (records_of self.new ≡ with_request (records_of self.old) request) }
     {
         // The prover needs these lines, since an order has a command, which may have a chair.
@@ -43,7 +42,12 @@ impl Records {
         let _nowhere: Option<ChairId> = None;
         match request {
             Request::Order(order) => self.orders.push(order)?,
-            Request::Read(reader, majority) => self.asked[reader as usize - 1].push(majority)?,
+            Request::Read(reader, majority) => {
+                let index = usize::from(reader).saturating_sub(1);
+                if index < SERVED_READERS {
+                    self.asked[index].push(majority)?;
+                }
+            }
         }
         Ok(())
     }
@@ -86,9 +90,13 @@ impl Plan {
 }
 
 impl Interpreter for Plan {
+    type Asked = Request;
+
     ghost opened = { plan_start };
 
-    ghost step = { plan_step };
+    ghost parsed = { request_within };
+
+    ghost effect = { plan_effect };
 
     fn open(alloc: Global, start: ScriptStart, _limits: Limits) -> Result<Plan, Stop> {
         Ok(Plan {
@@ -97,21 +105,15 @@ impl Interpreter for Plan {
         })
     }
 
-    fn carry_out<W: Write>(
+    fn parse(limits: Limits, row: &ByteRecord) -> Result<Request, Refusal> {
+        request_in(limits, row)
+    }
+
+    fn carry_out<W: Recorder>(
         &mut self,
-        limits: Limits,
-        row: &ByteRecord,
-        number: u32,
+        request: Request,
         _out: &mut Output<'_, W>,
     ) -> Result<(), Stop> {
-        let limits = Limits {
-            readers: SERVED_READERS as u8,
-            ..limits
-        };
-        let request = match request_in(limits, row, number) {
-            Ok(request) => request,
-            Err(stop) => return Err(stop),
-        };
         self.records.add(request)?;
         Ok(())
     }

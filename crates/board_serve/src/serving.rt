@@ -1,12 +1,12 @@
 //! Serves an input with one writer thread and two reader threads.
-ghost use Rattle.std.specs.Prelude.{◌≡◌, ◌≢◌, ◌∷◌, [], Ok, true, false, map};
+ghost use Rattle.std.specs.Prelude.{◌≡◌, ◌≢◌, ◌∷◌, [], Ok, Some, true, false, map};
 ghost use Rattle.std.specs.Prelude.{IfOk, IfErr, IsErrOf, IsOkUnless, OnOk};
-ghost use Rattle.recording_io.specs.Tapes.{OfInput};
+ghost use Rattle.recording_io.specs.Tapes.{IsSameWriter, OfInput};
 ghost use Rattle.council_core.specs.Laws.{IsOpening};
 ghost use Rattle.council_core.specs.Rolls.{IsLegal};
 ghost use Rattle.council_core.specs.Sequential.{AreCuts, AreLegalRecords, answered};
 ghost use Rattle.council_core.specs.declared.refusals.Refusal.TheVariants as why;
-ghost use Rattle.board_text.specs.Inputs.{IsOfDevice, IsReadFault, ReadsWithin};
+ghost use Rattle.board_text.specs.Streams.{IsOfDevice, IsReadFault, RunsWithin, WritesWithin, most_reads};
 ghost use Rattle.board_text.specs.Lines.{reply_line};
 ghost use Rattle.board_text.specs.Output.{IsBadLimit, WritesRun};
 ghost use Rattle.board_text.specs.Sinks.{GoesOn};
@@ -15,8 +15,9 @@ ghost use Rattle.board_text.specs.declared.stops.Stop.TheVariants as stop;
 ghost use Rattle.board_audits.specs.declared.audits.AuditFault.TheVariants.{OutOfMemory as LacksMemory};
 ghost use Rattle.board_serve.specs.Outcomes.{CanBeFound, IsOutcome, IsServed, ServedLegalRecords, sheets_of};
 ghost use Rattle.board_serve.specs.Plans.{plan_of, two_readers};
-ghost use Rattle.board_serve.specs.Serving.{IsReportStop, WritesServeOutput, WritesServeRun, audited_run, count_lines, lines_of_work};
-ghost use Rattle.board_serve.specs.Work.{IsHeldUp};
+ghost use Rattle.board_serve.specs.Serving.{IsReportStop, WritesServeOutput, WritesServeRun};
+ghost use Rattle.board_serve.specs.Serving.{audited_run, count_lines, lines_of_work};
+ghost use Rattle.board_serve.specs.Work.{StopsAll};
 
 use crate::gates::Gate;
 use crate::plan::{Plan, SERVED_READERS};
@@ -26,9 +27,9 @@ use board_text::{
     Fault, Limits, Output, Stop, end_run, interpret, line_of_answer, line_of_audit, line_of_count,
 };
 use council_core::{Answer, Command, MemberCode, Refusal, Sheet, Votes, opening_law};
-use recording_io::RecordingReader;
+use recording_io::{Recorder, RecordingReader};
 use std::alloc::Global;
-use std::io::{Read, Write};
+use std::io::Read;
 use std::sync::Wait;
 use std::thread::Threads;
 
@@ -97,7 +98,7 @@ fn perform<G: Gate, R: Threads + Wait + Sync>(
     ensures done { IfOk result (λ r. IsOutcome plan r.0.items r.1) }
     ensures records { IfOk result (λ r. r.2 ≡ true → ServedLegalRecords plan r.1) }
     ensures differs { IfOk result (λ r. r.2 ≡ false → ServedLegalRecords plan r.1 → ⊥) }
-    ensures causes { IfErr result IsHeldUp }
+    ensures stopped { IfErr result (StopsAll plan.start plan.records.orders) }
 {
     let (register, records) = plan.into_parts();
     let members = Vec::from_slice(alloc, register.opening())?;
@@ -109,7 +110,7 @@ fn perform<G: Gate, R: Threads + Wait + Sync>(
 }
 
 // Writes the lines of these answers.
-fn write_answers<W: Write>(out: &mut Output<'_, W>, answers: &[Answer]) -> Result<(), Stop>
+fn write_answers<W: Recorder>(out: &mut Output<'_, W>, answers: &[Answer]) -> Result<(), Stop>
     ensures wrote { WritesRun out.old.held out.new.held result
         (printed_run (map (λ a. reply_line (answered a)) answers.now)) }
     ensures continues { GoesOn out.old out.new }
@@ -122,7 +123,7 @@ fn write_answers<W: Write>(out: &mut Output<'_, W>, answers: &[Answer]) -> Resul
 }
 
 // Writes the number of readings of each reader.
-fn write_counts<W: Write>(out: &mut Output<'_, W>, counts: (u64, u64)) -> Result<(), Stop>
+fn write_counts<W: Recorder>(out: &mut Output<'_, W>, counts: (u64, u64)) -> Result<(), Stop>
     ensures wrote { WritesRun out.old.held out.new.held result
         (printed_run (count_lines 1 (counts.0 ∷ counts.1 ∷ []))) }
     ensures continues { GoesOn out.old out.new }
@@ -133,7 +134,7 @@ fn write_counts<W: Write>(out: &mut Output<'_, W>, counts: (u64, u64)) -> Result
 }
 
 // Writes the answers, the number of readings of each reader, and the result of the audit.
-fn report<W: Write>(
+fn report<W: Recorder>(
     out: &mut Output<'_, W>,
     answers: &[Answer],
     counts: (u64, u64),
@@ -153,7 +154,7 @@ fn report<W: Write>(
 }
 
 // Carries out a plan and writes its lines.
-fn serve_plan<G: Gate, T: Threads + Wait + Sync, W: Write>(
+fn serve_plan<G: Gate, T: Threads + Wait + Sync, W: Recorder>(
     rt: &T,
     alloc: Global,
     gate: &G,
@@ -170,7 +171,7 @@ fn serve_plan<G: Gate, T: Threads + Wait + Sync, W: Write>(
 }
 
 // Serves the input, without the line of a fault.
-fn serve_to<G: Gate, T: Threads + Wait + Sync, R: Read + Drop, W: Write>(
+fn serve_to<G: Gate, T: Threads + Wait + Sync, R: Read + Drop, W: Recorder>(
     rt: &T,
     alloc: Global,
     gate: &G,
@@ -182,7 +183,7 @@ fn serve_to<G: Gate, T: Threads + Wait + Sync, R: Read + Drop, W: Write>(
         (λ bytes. WritesServeRun out.old.held out.new.held result (plan_of journal_limit bytes)) }
     ensures limits_first { in_range (two_readers journal_limit) ≡ false
         → IsErrOf result (Stop.Input (fault_at why.BadLimit 0)) × (input.new ≡ input.old) }
-    ensures reads { ReadsWithin IsReadFault input.old input.new result }
+    ensures reads { RunsWithin IsReadFault most_reads input.old.calls input.new.calls result }
     ensures continues { GoesOn out.old out.new }
 {
     let limits = Limits {
@@ -203,12 +204,13 @@ fn serve_to<G: Gate, T: Threads + Wait + Sync, R: Read + Drop, W: Write>(
 ///
 /// At most `READS` reads of the input are made, and none after the read that reported its end or
 /// failed. At most `INTERRUPTIONS` interrupted reads are retried: the next interruption is a failed
-/// read.
+/// read. The bounds on writes are those of `replay`.
 ///
 /// ```rust
 /// let mut input = RecordingReader::new(text); // `text` is a `&[u8]`
 /// let mut lines = Vec::new(rt.alloc());
-/// let served = serve(&rt, rt.alloc(), &FreeGate, &mut input, &mut lines, MAX_COMMANDS);
+/// let mut out = RecordingWriter::new(&mut lines);
+/// let served = serve(&rt, rt.alloc(), &FreeGate, &mut input, &mut out, MAX_COMMANDS);
 /// ```
 ///
 /// # Errors
@@ -223,7 +225,7 @@ fn serve_to<G: Gate, T: Threads + Wait + Sync, R: Read + Drop, W: Write>(
 ///   register does not give.
 ///
 /// `OutOfMemory` is possible at any time, and `WriteFault` at any write.
-pub fn serve<G: Gate, T: Threads + Wait + Sync, R: Read + Drop, W: Write>(
+pub fn serve<G: Gate, T: Threads + Wait + Sync, R: Read + Drop, W: Recorder>(
     rt: &T,
     alloc: Global,
     gate: &G,
@@ -232,10 +234,13 @@ pub fn serve<G: Gate, T: Threads + Wait + Sync, R: Read + Drop, W: Write>(
     journal_limit: u32,
 ) -> Result<Served, Fault>
     ensures wrote { OfInput input.old input.new
-        (λ bytes. WritesServeOutput (W.contents out.old) (W.contents out.new) result (plan_of journal_limit bytes)) }
+        (λ bytes. WritesServeOutput (Some (W.recorded out.old).bytes) (Some (W.recorded out.new).bytes)
+        result (plan_of journal_limit bytes)) }
     ensures limits_first { in_range (two_readers journal_limit) ≡ false
         → IsBadLimit result × (input.new ≡ input.old) }
-    ensures reads { ReadsWithin IsOfDevice input.old input.new result }
+    ensures reads { RunsWithin IsOfDevice most_reads input.old.calls input.new.calls result }
+    ensures same { IsSameWriter (W.recorded out.old) (W.recorded out.new) }
+    ensures writes { WritesWithin (W.recorded out.old) (W.recorded out.new) }
     ensures served { IfOk result
         (λ s. OfInput input.old input.new (λ bytes. IfOk (plan_of journal_limit bytes) (λ p. IsServed p s))) }
     ensures records { IfOk result

@@ -1,9 +1,10 @@
 //! Starts the threads of a run, waits for them, and combines their results.
-ghost use Rattle.std.specs.Prelude.{◌≡◌, ◌∷◌, [], Ok, Err, length, IfOk, IfErr, IsOkUnless};
+ghost use Rattle.std.specs.Prelude.{◌≡◌, ◌∷◌, [], Ok, Some, length, IfOk, IfErr, IsOkUnless};
 ghost use Rattle.board_share.specs.Openings.{share_start, new_readers, new_publisher};
 ghost use Rattle.board_text.specs.declared.stops.Stop.TheVariants as stop;
 ghost use Rattle.board_serve.specs.Outcomes.{IsBrought};
-ghost use Rattle.board_serve.specs.Work.{AreDone, AreReady, CanAsk, CanWrite, HasAsked, HasWritten, IsClosed, IsHeldUp};
+ghost use Rattle.board_serve.specs.Work.{AreDone, AreReady, CanAsk, CanWrite, HasAsked, HasWritten, StopsAll};
+ghost use Rattle.board_serve.specs.Work.{ends_of, register_of, returned_stop};
 
 use crate::gates::Gate;
 use crate::plan::{Records, SERVED_READERS};
@@ -153,14 +154,10 @@ fn all_done(
     first: Result<ReaderWork, Stop>,
     second: Result<ReaderWork, Stop>,
 ) -> Result<AllWork, Stop>
-    requires writer { IfErr writer IsHeldUp }
-    requires first { IfErr first IsClosed }
-    requires second { IfErr second IsClosed }
     ensures writer { IfOk result (λ d. writer ≡ Ok d.writer) }
     ensures first { IfOk result (λ d. first ≡ Ok d.first) }
     ensures second { IfOk result (λ d. second ≡ Ok d.second) }
-    ensures causes { IfErr result IsHeldUp }
-    ensures memory_first { writer ≡ Err stop.OutOfMemory → result ≡ Err stop.OutOfMemory }
+    ensures stopped { IfErr result (λ e. returned_stop (ends_of writer first second) ≡ Some e) }
 {
     let writer = writer?;
     let first = first?;
@@ -182,7 +179,7 @@ fn run_in<'s, E, G: Gate, R: Threads + Wait + Sync>(
 ) -> Result<AllWork, Stop>
     requires ready { AreReady work }
     ensures done { IfOk result (AreDone work) }
-    ensures causes { IfErr result IsHeldUp }
+    ensures stopped { IfErr result (StopsAll (register_of work.writer.writer) work.writer.orders.items) }
 {
     let writer = start_writer(scope, rt, gate, work.writer);
     let first = start_reader(scope, gate, work.first);
@@ -199,7 +196,7 @@ pub(crate) fn run_all<G: Gate, R: Threads + Wait + Sync>(
 ) -> Result<AllWork, Stop>
     requires ready { AreReady work }
     ensures done { IfOk result (AreDone work) }
-    ensures causes { IfErr result IsHeldUp }
+    ensures stopped { IfErr result (StopsAll (register_of work.writer.writer) work.writer.orders.items) }
 {
     thread::scope(
         thread::scope_env(),
@@ -207,7 +204,7 @@ pub(crate) fn run_all<G: Gate, R: Threads + Wait + Sync>(
         |scope| -> Result<AllWork, Stop>
             requires ready { AreReady work }
             ensures done { IfOk result (AreDone work) }
-            ensures causes { IfErr result IsHeldUp }
+            ensures stopped { IfErr result (StopsAll (register_of work.writer.writer) work.writer.orders.items) }
         { run_in(scope, rt, gate, work) },
     )
 }

@@ -1,5 +1,5 @@
 -- One access of a seat to the words, and the action that it does.
-use Rattle.std.proofs.Common.{◌≡◌, ℕ}
+use Rattle.board_share.proofs.Names.{ℕ, ◌≡◌}
 use Rattle.two_copy_steps.specs.Actions.{Action}
 
 -- the word, what it becomes, and what the access returns to the seat, both by the number found there

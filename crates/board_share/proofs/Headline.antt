@@ -1,57 +1,36 @@
 -- The headline: what a history's calls were answered, and what the seats of a state know.
-use Rattle.std.proofs.Common.{◌≡◌, ◌≢◌, ℕ, zero, suc, eqb, ◌<◌, Bool, true, false, cond, List, [], ◌∷◌, ◌++◌, map, length, get_or, take, set, All, Option, None, Some, slice_get, option_to_list, Result, Ok, Err, refl, sym, ap, ◌∙◌, subst, ⊎_elim, arith, append_assoc, append-nil, eq-eqb, ne_eqb}
+use Rattle.board_share.proofs.Names.{[], ap, append-nil, append_assoc, arith, Arrived, AtRest, auxiliary_start, Bool}
+use Rattle.board_share.proofs.Names.{Busy, Command, cond, COPY_WORDS, eq-eqb, eqb, Err, Event, false, Filling, filter}
+use Rattle.board_share.proofs.Names.{get_elem?, get_or, held_by, History, history_with, Idle, is_idle, is_readers}
+use Rattle.board_share.proofs.Names.{is_writers, IsAccepted, IsLawfulBoard, IsReader, IsWriter, known_after, known_by}
+use Rattle.board_share.proofs.Names.{KnowsAfter, Leaving, Ledger, length, List, machine_at_start, machine_of}
+use Rattle.board_share.proofs.Names.{MachineState, map, Me, Moved, ne_eqb, None, Note, number_of, Ok, Opening, Option}
+use Rattle.board_share.proofs.Names.{Phase, phase_note, Publish, Published, Publisher, publisher_at, Read, Reader}
+use Rattle.board_share.proofs.Names.{ReaderSeen, Reading, refl, Result, RuleHolds, same_Some, seat_view, SeatsReader}
+use Rattle.board_share.proofs.Names.{SeatsWriter, Seeing, set, ShareStart, sheet, Skipped, slice_get, Some, some, Stage}
+use Rattle.board_share.proofs.Names.{stage_action, stage_note, Submit, subst, suc, Swapping, sym, TableId, take}
+use Rattle.board_share.proofs.Names.{transition, true, View, Writer, WriterView, Writing, zero, ℕ, ⊎_elim, ◌++◌, ◌<◌}
+use Rattle.board_share.proofs.Names.{◌∙◌, ◌∷◌, ◌≡◌, ◌≢◌}
+use Rattle.std.proofs.Common.{All, option_to_list}
 use Rattle.std.specs.Prelude.{⊤}
-use Rattle.std.specs.List.{filter}
 use Rattle.std.proofs.lemmas.List.{map-append}
-use Rattle.std.proofs.lemmas.Option.{same_Some}
 use Rattle.std.proofs.Math.Seq.{take-append_seam}
-use mathlib.Core.Option.{some}
-use lib.ListN.{get_elem?}
 use Rattle.atomic_table.specs.Table as table
-use Rattle.atomic_table.specs.Table.{Me}
-use Rattle.council_core.specs.declared.commands.Command.{Command}
 use Rattle.council_core.specs.declared.refusals.Refusal.{Refusal}
-use Rattle.council_core.specs.Rolls.{Opening, sheet}
-use Rattle.council_core.specs.Ledgers.{Ledger, IsLedger, verdict_of}
+use Rattle.council_core.specs.Ledgers.{IsLedger, verdict_of}
 use Rattle.council_core.specs.Sequential.{Sequential, Call, Reply, response_to, reading, replies_of, state_after, submit, publish, AreRecords, AreLegalRecords}
-use Rattle.two_copy_steps.specs.declared.events.Event.{Event}
-use Rattle.two_copy_steps.specs.declared.events.Event.TheVariants.{Submit, Publish, Writer, Reader}
-use Rattle.two_copy_steps.specs.declared.events.Note.{Note}
-use Rattle.two_copy_steps.specs.declared.events.Note.TheVariants.{Accepted, Refused, Began, Moved, Published, Busy, Read, Skipped}
-use Rattle.two_copy_steps.specs.declared.views.WriterView.{WriterView}
-use Rattle.two_copy_steps.specs.declared.views.Writing.{Writing}
-use Rattle.two_copy_steps.specs.declared.views.Stage.{Stage}
-use Rattle.two_copy_steps.specs.declared.views.Stage.TheVariants.{AtRest, Arrived, Reading, Leaving}
-use Rattle.two_copy_steps.specs.declared.views.Phase.{Phase}
-use Rattle.two_copy_steps.specs.declared.views.Phase.TheVariants.{Idle, Seeing, Filling, Swapping}
-use Rattle.two_copy_steps.specs.declared.table.TheConstants.{COPY_WORDS}
-use Rattle.two_copy_steps.specs.Actions.{cuts_past, first_false, phase_action, stage_action, writing_with_quiescent}
-use Rattle.two_copy_steps.specs.Auxiliary.{Auxiliary, auxiliary_start, auxiliary_step, auxiliary_steps, auxiliary_reader_step, IsLawfulMachine}
+use Rattle.two_copy_steps.specs.declared.events.Note.TheVariants.{Accepted, Refused, Began}
+use Rattle.two_copy_steps.specs.Actions.{cuts_past, first_false, phase_action, writing_with_quiescent}
+use Rattle.two_copy_steps.specs.Auxiliary.{Auxiliary, auxiliary_step, auxiliary_steps, auxiliary_reader_step, IsLawfulMachine}
 use Rattle.two_copy_steps.specs.Effects.{effect, effects, reader_effect, stage_effect, phase_effect, SequentialRun, sequential_start, sequential_step, sequential_steps, replied_after, replied_at, replied_to, OutputIsReply}
 use Rattle.two_copy_steps.specs.Lawful.{IsPrefix}
 use Rattle.two_copy_steps.specs.Records.{reported_of, sheets_reported}
 use Rattle.two_copy_steps.specs.Stages.{about_to_leave}
-use Rattle.two_copy_steps.specs.States.{IsLawfulBoard}
-use Rattle.two_copy_steps.specs.Transitions.{MachineState, machine_at_start, transition, machine_and_note, published_by, is_pending, is_idle, reader_transition, phase_note, stage_note, state_after_events, notes}
-use Rattle.two_copy_steps.proofs.Cuts.{HasCuts, run_cuts}
-use Rattle.two_copy_steps.proofs.EffectLists.{one_run}
-use Rattle.two_copy_steps.proofs.EventLists.{Together, together_on, start_together}
-use Rattle.two_copy_steps.proofs.Journals.{IsAccepted}
-use Rattle.two_copy_steps.proofs.Lists.{at_set}
-use Rattle.two_copy_steps.proofs.Replies.{Held, sequential_of, event_agrees}
-use Rattle.two_copy_steps.proofs.ReportedRecords.{run_reported}
-use Rattle.two_copy_steps.proofs.StateFacts.{state_records}
-use Rattle.board_share.specs.declared.views.View.{View}
-use Rattle.board_share.specs.declared.views.ShareStart.{ShareStart}
-use Rattle.board_share.specs.declared.views.History.{History}
+use Rattle.two_copy_steps.specs.Transitions.{machine_and_note, published_by, is_pending, reader_transition, state_after_events, notes}
+use Rattle.two_copy_steps.proofs.Face.{at_set, event_agrees, HasCuts, Held, one_run, run_cuts, run_reported, sequential_of, start_together, state_records, Together, together_on}
 use Rattle.board_share.specs.Headline.{Made, Tells, CallsTell, ReadsFrom, WritesTo, IsAwaited, HeadlineLaw, CallsLaw, PlacesLaw, TellsLaw, answers_in, calls_from, calls_in, cuts_replied, fronts_after, maker, published_in, register_after, register_before, replies_from, replies_to}
-use Rattle.board_share.specs.Histories.{KnowsAfter, history_with, known_after, machine_of, reported_in, is_readers, is_writers}
-use Rattle.board_share.specs.Laws.{SeatsReader, SeatsWriter}
-use Rattle.board_share.specs.Readers.{ReaderSeen, known_by, number_of, seat_view}
-use Rattle.board_share.specs.Rule.{IsAfter, RuleHolds}
-use Rattle.board_share.specs.Readers.{IsReader}
-use Rattle.board_share.specs.Writers.{IsWriter, Publisher, held_by, publisher_at}
-use Rattle.atomic_table.specs.Seated.{TableId}
+use Rattle.board_share.specs.Histories.{reported_in}
+use Rattle.board_share.specs.Rule.{IsAfter}
 use Rattle.board_share.proofs.Histories.{auxiliary_of, viewed_back}
 use Rattle.board_share.proofs.Parts.{only_here}
 use Rattle.board_share.proofs.ReaderSteps.{with_opening_is}

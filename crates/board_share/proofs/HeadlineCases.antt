@@ -1,29 +1,22 @@
 -- The headline over a register of one member: a history whose calls are computed, and what no calls and no history can tell.
-use Rattle.std.proofs.Common.{◌≡◌, ℕ, zero, suc, ◌≤◌, true, false, List, [], ◌∷◌, ◌++◌, replicate, All, Some, refl, sym, ap, ◌∙◌, arith}
+use Rattle.board_share.proofs.Names.{[], ap, arith, Arrived, AtRest, Busy, Command, false, first_history, get_elem?}
+use Rattle.board_share.proofs.Names.{held_by, History, history_with, HoldsBy, Leaving, List, MayBegin, Moved, none-some}
+use Rattle.board_share.proofs.Names.{number_of, Open, opening_view, Publish, Published, Publisher, Read, Reader}
+use Rattle.board_share.proofs.Names.{ReaderSeen, Reading, refl, replicate, seat_of_reader, seat_view, SeatsReader}
+use Rattle.board_share.proofs.Names.{SeatsWriter, ShareStart, Skipped, Some, some, some-injective, some-ne-none, Submit}
+use Rattle.board_share.proofs.Names.{suc, sym, true, View, Writer, zero, ℕ, ◌++◌, ◌∙◌, ◌∷◌, ◌≡◌, ◌≤◌}
+use Rattle.std.proofs.Common.{All}
 use Rattle.std.specs.Prelude.{map, slice_set}
-use lib.ListN.{get_elem?}
-use Rattle.std.proofs.lemmas.Option.{none-some}
-use mathlib.Core.Option.{some, some-injective, some-ne-none}
 use Rattle.atomic_table.specs.Table as table
 use Rattle.council_core.specs.Ledgers.{IsLedger}
 use Rattle.council_core.specs.Sequential.{answered, reading, read, submit, publish}
 use Rattle.council_core.specs.declared.calls.Answer.TheVariants as answer
-use Rattle.council_core.specs.declared.commands.Command.{Command}
-use Rattle.council_core.specs.declared.commands.Command.TheVariants.{Open, Move}
+use Rattle.council_core.specs.declared.commands.Command.TheVariants.{Move}
 use Rattle.council_core.specs.declared.refusals.Refusal.TheVariants.{ChairOpen}
-use Rattle.two_copy_steps.specs.declared.events.Event.TheVariants.{Submit, Publish, Writer, Reader}
-use Rattle.two_copy_steps.specs.declared.events.Note.TheVariants.{Accepted, Refused, Began, Moved, Published, Busy, Read, Skipped}
-use Rattle.two_copy_steps.specs.declared.views.Stage.TheVariants.{AtRest, Arrived, Reading, Leaving}
-use Rattle.board_share.specs.declared.views.ShareStart.{ShareStart}
-use Rattle.board_share.specs.declared.views.History.{History}
-use Rattle.board_share.specs.declared.views.View.{View}
+use Rattle.two_copy_steps.specs.declared.events.Note.TheVariants.{Accepted, Refused, Began}
 use Rattle.board_share.specs.Headline.{CallsLaw, CallsTell, HeadlineLaw, IsAwaited, Made, ReadsFrom, Tells, TellsLaw, WritesTo, answers_in, calls_in, cuts_replied, fronts_after, published_in, replies_to}
-use Rattle.board_share.specs.Histories.{first_history, history_with, reported_in}
-use Rattle.board_share.specs.Laws.{ReaderStepLaw, SeatsReader, SeatsWriter, WriterStepLaw}
-use Rattle.board_share.specs.Readers.{ReaderSeen, number_of, seat_view}
-use Rattle.board_share.specs.Rule.{HoldsBy, opening_view}
-use Rattle.board_share.specs.Seats.{seat_of_reader}
-use Rattle.board_share.specs.Writers.{MayBegin, Publisher, held_by}
+use Rattle.board_share.specs.Histories.{reported_in}
+use Rattle.board_share.specs.Laws.{ReaderStepLaw, WriterStepLaw}
 use Rattle.board_share.proofs.WorkedCases.{after_events, begun, both_done, having_read, none_done, one_done, one_member, seated, table as shared}
 
 -- a reader loads side before a publication stores it, and reads the words after; then it reads once more

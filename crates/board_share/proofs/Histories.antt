@@ -1,32 +1,24 @@
 -- The machine after a longer history.
-use Rattle.std.proofs.Common.{◌≡◌, ℕ, zero, suc, ◌<◌, ◌≤◌, Bool, true, false, cond, ◌&&◌, List, [], ◌∷◌, ◌++◌, map, length, Option, None, Some, slice_get, Result, Ok, Err, is_ok, IsTrue, refl, sym, ap, ◌∙◌, subst, arith, length-set, length-append, append_assoc, append-nil, ne_eqb}
+use Rattle.board_share.proofs.Names.{[], ap, append-nil, append_assoc, arith, AtRest, auxiliary_start, Bool, Command}
+use Rattle.board_share.proofs.Names.{cond, Err, Event, false, History, history_with, is_idle, IsAccepted, known_after}
+use Rattle.board_share.proofs.Names.{last_or, last_reported, Ledger, length, length-replicate, length-set, List}
+use Rattle.board_share.proofs.Names.{machine_at_start, machine_of, MachineState, map, ne_eqb, None, none-some, Ok}
+use Rattle.board_share.proofs.Names.{Option, Publish, Reader, ReaderView, refl, Result, same_Some, Skipped, slice_get}
+use Rattle.board_share.proofs.Names.{Some, Stage, stage_note, Submit, subst, suc, sym, transition, true, Writer, zero}
+use Rattle.board_share.proofs.Names.{ℕ, ◌++◌, ◌<◌, ◌∙◌, ◌∷◌, ◌≡◌, ◌≤◌}
+use Rattle.std.proofs.Common.{◌&&◌, is_ok, IsTrue, length-append}
 use Rattle.std.specs.Prelude.{⊤}
-use Rattle.std.specs.List.{last_or}
 use Rattle.std.proofs.lemmas.Bool.{lt-ltb}
-use Rattle.std.proofs.lemmas.Option.{none-some, same_Some}
-use Rattle.std.proofs.lemmas.List.{length-replicate}
-use Rattle.council_core.specs.declared.commands.Command.{Command}
 use Rattle.council_core.specs.declared.refusals.Refusal.{Refusal}
 use Rattle.council_core.specs.declared.refusals.Refusal.TheVariants.{JournalFull}
 use Rattle.council_core.specs.Rolls.{Roll, opening_roll, fold_from, step, all_accepted}
 use Rattle.council_core.specs.Rolls as rolls
-use Rattle.council_core.specs.Ledgers.{Ledger, roll_of, room_of, verdict, verdict_of, ledger_with}
-use Rattle.two_copy_steps.specs.declared.events.Event.{Event}
-use Rattle.two_copy_steps.specs.declared.events.Event.TheVariants.{Submit, Publish, Writer, Reader}
-use Rattle.two_copy_steps.specs.declared.events.Note.TheVariants.{Skipped}
-use Rattle.two_copy_steps.specs.declared.views.ReaderView.{ReaderView}
-use Rattle.two_copy_steps.specs.declared.views.Stage.{Stage}
-use Rattle.two_copy_steps.specs.declared.views.Stage.TheVariants.{AtRest}
+use Rattle.council_core.specs.Ledgers.{roll_of, room_of, verdict, verdict_of, ledger_with}
 use Rattle.two_copy_steps.specs.Actions.{writing_of_staged}
 use Rattle.two_copy_steps.specs.Lawful.{read_by, written_by, begun_by}
-use Rattle.two_copy_steps.specs.Transitions.{MachineState, transition, state_after_events, notes, machine_at_start, machine_and_note, published_by, is_pending, is_idle, reader_transition, stage_note}
-use Rattle.two_copy_steps.specs.Auxiliary.{Auxiliary, auxiliary_step, auxiliary_steps, auxiliary_start, record_at, reader_views, auxiliary_reader_step, state_of}
-use Rattle.two_copy_steps.proofs.EventLists.{after_append, notes_append}
-use Rattle.two_copy_steps.proofs.Journals.{IsAccepted}
-use Rattle.two_copy_steps.proofs.TransitionFacts.{reader_is}
-use Rattle.two_copy_steps.proofs.TransitionSteps.{view_at}
-use Rattle.board_share.specs.declared.views.History.{History}
-use Rattle.board_share.specs.Histories.{machine_of, known_after, last_reported, history_with}
+use Rattle.two_copy_steps.specs.Transitions.{state_after_events, notes, machine_and_note, published_by, is_pending, reader_transition}
+use Rattle.two_copy_steps.specs.Auxiliary.{Auxiliary, auxiliary_step, auxiliary_steps, record_at, reader_views, auxiliary_reader_step, state_of}
+use Rattle.two_copy_steps.proofs.Face.{after_append, notes_append, reader_is, view_at}
 
 -- the cuts and records after one list of events and then another
 pub auxiliary_append : (events more : List Event) (m : MachineState) (p : Auxiliary) → auxiliary_steps m p (events ++ more) ≡ auxiliary_steps (state_after_events m events) (auxiliary_steps m p events) more

@@ -1,14 +1,9 @@
 -- The laws of a rule speak of the board that the rule is of: the history that each gives begins as that board does.
-use Rattle.std.proofs.Common.{◌≡◌, ℕ, [], map}
+use Rattle.board_share.proofs.Names.{[], Adds, History, is_writers, IsPublishable, known_after, machine_at_start, map}
+use Rattle.board_share.proofs.Names.{Publisher, ShareStart, TookTry, View, ℕ, ◌≡◌}
 use Rattle.atomic_table.specs.Table as table
-use Rattle.two_copy_steps.specs.Lawful.{IsPublishable}
-use Rattle.two_copy_steps.specs.Transitions.{machine_at_start}
 use Rattle.two_copy_steps.specs.Auxiliary.{IsApart}
-use Rattle.board_share.specs.declared.views.View.{View}
-use Rattle.board_share.specs.declared.views.ShareStart.{ShareStart}
-use Rattle.board_share.specs.declared.views.History.{History}
-use Rattle.board_share.specs.Histories.{Adds, is_writers, known_after}
-use Rattle.board_share.specs.Writers.{Publisher, TookTry, publication}
+use Rattle.board_share.specs.Writers.{publication}
 use Rattle.board_share.specs.Laws.{ApartLaw, HistoryLaw, SeatStartLaw, SplitLaw}
 
 module _ (holds : ShareStart → table.State Unit View → Type 0) (begun : ShareStart) (s : table.State Unit View) (held : holds begun s) where

@@ -1,25 +1,16 @@
 -- What is said of a writer with and without pending commands, computed; and of the steps, seats and histories of a board, part by part.
-use Rattle.std.proofs.Common.{◌≡◌, ◌++◌, ℕ, true, false, List, [], ◌∷◌, length, replicate, slice_get, Option, Some, None, refl, ap, sym, ◌∙◌}
-use Rattle.std.proofs.lemmas.Option.{same_Some}
-use Rattle.std.specs.List.{filter}
-use lib.ListN.{get_elem?}
-use mathlib.Core.Option.{some}
+use Rattle.board_share.proofs.Names.{[], Adds, ap, as_reader, Command, Event, false, filter, first_history, get_elem?}
+use Rattle.board_share.proofs.Names.{held_by, History, is_readers, is_writers, IsLawfulBoard, IsLegalSheet, known_after}
+use Rattle.board_share.proofs.Names.{known_by, KnowsAfter, KnowsPrefix, length, List, look_count, machine_of, None}
+use Rattle.board_share.proofs.Names.{number_of, Open, Opening, Option, Part, publication_steps, Publish, Publisher}
+use Rattle.board_share.proofs.Names.{publisher_at, Reader, ReaderSeen, refl, replicate, RuleHolds, same_Some, Seated}
+use Rattle.board_share.proofs.Names.{ShareStart, sheet, slice_get, Some, some, Submit, sym, TookTry, true, View, Writer}
+use Rattle.board_share.proofs.Names.{WriterView, ℕ, ◌++◌, ◌∙◌, ◌∷◌, ◌≡◌}
 use Rattle.atomic_table.specs.Table as table
-use Rattle.council_core.specs.Rolls.{IsLegal, Opening, sheet}
-use Rattle.council_core.specs.declared.commands.Command.{Command}
-use Rattle.council_core.specs.declared.commands.Command.TheVariants.{Open}
-use Rattle.two_copy_steps.specs.States.{IsLawfulBoard}
-use Rattle.two_copy_steps.specs.declared.events.Event.{Event}
-use Rattle.two_copy_steps.specs.declared.events.Event.TheVariants.{Submit, Publish, Writer, Reader}
-use Rattle.two_copy_steps.specs.declared.views.WriterView.{WriterView}
-use Rattle.board_share.specs.declared.views.ShareStart.{ShareStart}
-use Rattle.board_share.specs.declared.views.History.{History}
-use Rattle.board_share.specs.declared.views.View.{View}
-use Rattle.board_share.specs.Histories.{Adds, KnowsAfter, first_history, handed_over, is_readers, is_writers, known_after, machine_of}
-use Rattle.board_share.specs.Readers.{IsLegalSheet, ReaderSeen, TookSteps, known_by, number_of}
-use Rattle.board_share.specs.Rule.{KnowsPrefix, RuleHolds}
-use Rattle.board_share.specs.Seats.{Part, Seated, as_reader}
-use Rattle.board_share.specs.Writers.{IsViewOf, Publisher, TookTries, TookTry, cuts_after, has_pending, held_by, look_count, publication_steps, publisher_at, seen_out_after}
+use Rattle.council_core.specs.Rolls.{IsLegal}
+use Rattle.board_share.specs.Histories.{handed_over}
+use Rattle.board_share.specs.Readers.{TookSteps}
+use Rattle.board_share.specs.Writers.{IsViewOf, TookTries, cuts_after, has_pending, seen_out_after}
 use Rattle.board_share.proofs.WorkedCases.{begun, seated, table}
 
 -- events of the writer, and of a reader by its number

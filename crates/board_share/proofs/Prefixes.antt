@@ -1,18 +1,8 @@
 -- The histories of all seats after a step of one.
-use Rattle.std.proofs.Common.{◌≡◌, ◌≢◌, ℕ, suc, Bool, List, [], ◌++◌, set, Some, refl, sym, ap, ◌∙◌, subst, ⊎_elim}
-use Rattle.std.specs.List.{filter}
+use Rattle.board_share.proofs.Names.{[], Adds, ap, as_reader, at_set, Bool, Event, filter, get_elem?, History}
+use Rattle.board_share.proofs.Names.{history_with, is_readers, is_writers, KnowsPrefix, List, Opening, Part, refl, set}
+use Rattle.board_share.proofs.Names.{Some, some, subst, suc, sym, View, WriterView, ℕ, ⊎_elim, ◌++◌, ◌∙◌, ◌≡◌, ◌≢◌}
 use Rattle.std.proofs.lemmas.List.Elements.{filter-append}
-use mathlib.Core.Option.{some}
-use lib.ListN.{get_elem?}
-use Rattle.atomic_table.proofs.Lists.{at_set}
-use Rattle.council_core.specs.Rolls.{Opening}
-use Rattle.two_copy_steps.specs.declared.events.Event.{Event}
-use Rattle.two_copy_steps.specs.declared.views.WriterView.{WriterView}
-use Rattle.board_share.specs.declared.views.History.{History}
-use Rattle.board_share.specs.declared.views.View.{View}
-use Rattle.board_share.specs.Histories.{history_with, is_writers, is_readers, Adds}
-use Rattle.board_share.specs.Seats.{Part, as_reader}
-use Rattle.board_share.specs.Rule.{KnowsPrefix}
 use Rattle.board_share.proofs.Histories.{longer_none, longer_twice}
 
 -- none of these events belongs to an actor of the seat

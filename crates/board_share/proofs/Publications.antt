@@ -1,27 +1,15 @@
 -- A publication, step by step.
-use Rattle.std.proofs.Common.{◌≡◌, ℕ, zero, suc, eqb, ◌+◌, ◌<◌, Bool, true, false, cond, List, [], ◌∷◌, ◌++◌, length, take, set, replicate, Option, None, Some, slice_get, refl, sym, ap, ◌∙◌, subst, arith, append-nil, append_assoc, ne_eqb}
-use Rattle.std.proofs.lemmas.Option.{none-some}
+use Rattle.board_share.proofs.Names.{[], Adds, all_true, ap, append-nil, append_assoc, arith, Bool, Busy, Command, cond}
+use Rattle.board_share.proofs.Names.{COPY_WORDS, due_at, eqb, Event, false, Filling, held_by, Idle, is_idle, is_writers}
+use Rattle.board_share.proofs.Names.{KnowsAfter, Ledger, length, List, MayBegin, Me, Moved, ne_eqb, None, none-some}
+use Rattle.board_share.proofs.Names.{Note, Opening, Option, Phase, phase_note, Published, Publishing, refl, replicate}
+use Rattle.board_share.proofs.Names.{Seeing, seeing_phase, set, sheet, slice_get, Some, subst, suc, Swapping, sym}
+use Rattle.board_share.proofs.Names.{TableId, take, true, unseen_count, View, with_writer, Writer, writer_or}
+use Rattle.board_share.proofs.Names.{WriterTook, WriterView, Writing, zero, ℕ, ◌++◌, ◌+◌, ◌<◌, ◌∙◌, ◌∷◌, ◌≡◌}
 use Rattle.std.proofs.lemmas.List.{replicate-append-replicate}
-use Rattle.atomic_table.specs.Table.{Me}
-use Rattle.atomic_table.specs.Seated.{TableId}
-use Rattle.council_core.specs.Rolls.{Opening, sheet}
-use Rattle.council_core.specs.Ledgers.{Ledger}
-use Rattle.council_core.specs.declared.commands.Command.{Command}
-use Rattle.two_copy_steps.specs.declared.events.Event.{Event}
-use Rattle.two_copy_steps.specs.declared.events.Event.TheVariants.{Writer}
-use Rattle.two_copy_steps.specs.declared.events.Note.{Note}
-use Rattle.two_copy_steps.specs.declared.events.Note.TheVariants.{Busy, Moved, Published}
-use Rattle.two_copy_steps.specs.declared.views.WriterView.{WriterView}
-use Rattle.two_copy_steps.specs.declared.views.Writing.{Writing}
-use Rattle.two_copy_steps.specs.declared.views.Phase.{Phase}
-use Rattle.two_copy_steps.specs.declared.views.Phase.TheVariants.{Idle, Seeing, Filling, Swapping}
-use Rattle.two_copy_steps.specs.Actions.{Action, all_true, first_false, writer_action, writing_with_quiescent, filling_phase, seeing_phase}
-use Rattle.two_copy_steps.specs.Transitions.{is_idle, phase_note}
-use Rattle.two_copy_steps.specs.declared.table.TheConstants.{COPY_WORDS}
-use Rattle.board_share.specs.declared.views.View.{View}
-use Rattle.board_share.specs.Histories.{Adds, KnowsAfter, is_writers}
-use Rattle.board_share.specs.Steps.{begin_events, with_writer, writer_begun_with}
-use Rattle.board_share.specs.Writers.{MayBegin, MayWrite, Publishing, SeatStepped, WriterTook, due_at, held_by, next_action, published_view, publishing_view, unseen_count, writer_or}
+use Rattle.two_copy_steps.specs.Actions.{Action, first_false, writer_action, writing_with_quiescent, filling_phase}
+use Rattle.board_share.specs.Steps.{begin_events, writer_begun_with}
+use Rattle.board_share.specs.Writers.{MayWrite, SeatStepped, next_action, published_view, publishing_view}
 use Rattle.board_share.proofs.Prefixes.{adds_then}
 
 -- the quiescent readers, one by one

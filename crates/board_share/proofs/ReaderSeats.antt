@@ -1,22 +1,12 @@
 -- What a reader's seat knows after a step.
-use Rattle.std.proofs.Common.{◌<◌, take, arith, ◌≡◌, ℕ, zero, suc, Bool, cond, eq-eqb, ne_eqb, length, List, Some, refl, sym, ap, ◌∙◌, subst}
-use Rattle.std.proofs.lemmas.List.{take_all, length-take-le}
-use Rattle.atomic_table.specs.Table.{Me, Allows}
-use Rattle.atomic_table.specs.Seated.{TableId}
-use Rattle.council_core.specs.Rolls.{Opening}
-use Rattle.two_copy_steps.specs.declared.views.ReaderView.{ReaderView}
-use Rattle.two_copy_steps.specs.declared.views.Stage.{Stage}
-use Rattle.two_copy_steps.specs.declared.views.Stage.TheVariants.{Reading, Leaving}
-use Rattle.two_copy_steps.specs.Actions.{stage_with_words, reader_action}
-use Rattle.two_copy_steps.specs.States.{IsKnown}
-use Rattle.two_copy_steps.specs.declared.table.TheConstants.{COPY_WORDS}
-use Rattle.board_share.specs.declared.views.History.{History}
-use Rattle.board_share.specs.declared.views.View.{View}
-use Rattle.board_share.specs.declared.views.ShareStart.{ShareStart}
-use Rattle.board_share.specs.Seats.{Part, seat_of_reader}
-use Rattle.board_share.specs.Rule.{RuleHolds}
-use Rattle.board_share.specs.Steps.{IsStepOn, bare_seat}
-use Rattle.board_share.specs.Readers.{ReaderSeen, known_by, TookStep, part_in, reader_at, IsReader, Stepped}
+use Rattle.board_share.proofs.Names.{Allows, ap, arith, bare_seat, Bool, cond, COPY_WORDS, eq-eqb, History, IsKnown}
+use Rattle.board_share.proofs.Names.{IsReader, IsStepOn, known_by, Leaving, length, length-take-le, List, Me, ne_eqb}
+use Rattle.board_share.proofs.Names.{Opening, Part, reader_at, ReaderSeen, ReaderView, Reading, refl, RuleHolds}
+use Rattle.board_share.proofs.Names.{seat_of_reader, ShareStart, Some, Stage, stage_with_words, subst, suc, sym}
+use Rattle.board_share.proofs.Names.{TableId, take, TookStep, View, zero, ℕ, ◌<◌, ◌∙◌, ◌≡◌}
+use Rattle.std.proofs.lemmas.List.{take_all}
+use Rattle.two_copy_steps.specs.Actions.{reader_action}
+use Rattle.board_share.specs.Readers.{part_in, Stepped}
 use Rattle.board_share.proofs.Accesses.{load_of, store_of}
 use Rattle.board_share.proofs.ReaderSteps.{reads_allows}
 

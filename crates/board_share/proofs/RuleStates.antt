@@ -1,16 +1,9 @@
 -- The rule by a state that is known to be the one after its history.
-use Rattle.std.proofs.Common.{◌≡◌, ℕ, length, Some, slice_get, refl, sym, ap, ◌∙◌, subst}
-use mathlib.Core.Option.{some}
-use lib.ListN.{get_elem?}
+use Rattle.board_share.proofs.Names.{ap, as_reader, as_writer, get_elem?, History, HoldsBy, IsLawfulBoard, known_after}
+use Rattle.board_share.proofs.Names.{KnowsPrefix, length, machine_of, refl, RuleHolds, Seated, ShareStart, slice_get}
+use Rattle.board_share.proofs.Names.{Some, some, subst, sym, View, with_opening, ℕ, ◌∙◌, ◌≡◌}
 use Rattle.atomic_table.specs.Table as table
 use Rattle.two_copy_steps.specs.Lawful.{State}
-use Rattle.two_copy_steps.specs.States.{IsLawfulBoard}
-use Rattle.board_share.specs.declared.views.ShareStart.{ShareStart}
-use Rattle.board_share.specs.declared.views.History.{History}
-use Rattle.board_share.specs.declared.views.View.{View}
-use Rattle.board_share.specs.Histories.{machine_of, known_after}
-use Rattle.board_share.specs.Seats.{as_writer, as_reader, Seated}
-use Rattle.board_share.specs.Rule.{HoldsBy, KnowsPrefix, RuleHolds, with_opening}
 
 pub record RuleHoldsByState (begun : ShareStart) (s : table.State Unit View) : Type 0 where
   pub history : History

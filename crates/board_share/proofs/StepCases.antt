@@ -1,28 +1,14 @@
 -- What a step, a publication that may begin and one that was abandoned say, part by part; and the seats of readers and writers.
-use Rattle.std.proofs.Common.{◌≡◌, ◌∙◌, ℕ, suc, Bool, true, false, List, [], ◌∷◌, length, Some, None, refl, sym, subst, arith, true≢false}
-use lib.ListN.{get_elem?}
-use mathlib.Core.Option.{some}
+use Rattle.board_share.proofs.Names.{[], arith, Arrived, AtRest, bare_seat, Bool, Busy, Command, false, get_elem?}
+use Rattle.board_share.proofs.Names.{History, Idle, IsKnown, IsStepOn, last_reported, Ledger, length, List, Me, Moved}
+use Rattle.board_share.proofs.Names.{None, Opening, Publisher, publisher_at, ReaderSeen, ReaderView, refl}
+use Rattle.board_share.proofs.Names.{seat_of_reader, seat_view, SeatsReader, SeatsWriter, Some, some, subst, suc}
+use Rattle.board_share.proofs.Names.{Swapping, sym, true, true≢false, View, with_writer, WriterView, ℕ, ◌∙◌, ◌∷◌, ◌≡◌}
 use Rattle.atomic_table.specs.Table as table
-use Rattle.atomic_table.specs.Table.{Me}
-use Rattle.council_core.specs.Ledgers.{Ledger}
-use Rattle.council_core.specs.Rolls.{Opening}
-use Rattle.council_core.specs.declared.commands.Command.{Command}
 use Rattle.council_core.specs.declared.commands.Command.TheVariants.{Close}
 use Rattle.two_copy_steps.specs.Lawful.{IsPrefix}
-use Rattle.two_copy_steps.specs.States.{IsKnown}
-use Rattle.two_copy_steps.specs.declared.events.Note.TheVariants.{Busy, Moved}
-use Rattle.two_copy_steps.specs.declared.views.Phase.TheVariants.{Idle, Swapping}
-use Rattle.two_copy_steps.specs.declared.views.ReaderView.{ReaderView}
-use Rattle.two_copy_steps.specs.declared.views.Stage.TheVariants.{Arrived, AtRest}
-use Rattle.two_copy_steps.specs.declared.views.WriterView.{WriterView}
-use Rattle.board_share.specs.declared.views.History.{History}
-use Rattle.board_share.specs.declared.views.View.{View}
-use Rattle.board_share.specs.Histories.{last_reported}
-use Rattle.board_share.specs.Laws.{SeatsReader, SeatsWriter}
-use Rattle.board_share.specs.Readers.{ReaderSeen, seat_view}
-use Rattle.board_share.specs.Seats.{seat_of_reader}
-use Rattle.board_share.specs.Steps.{IsStepOn, WriterActed, bare_seat, with_writer, write_then}
-use Rattle.board_share.specs.Writers.{GaveUp, MayPublish, Publisher, publisher_at}
+use Rattle.board_share.specs.Steps.{WriterActed, write_then}
+use Rattle.board_share.specs.Writers.{GaveUp, MayPublish}
 
 -- the first step of a reader at rest: it arrives, its view is known, and its output is that it moved
 abbrev at_rest : ReaderView

@@ -1,24 +1,21 @@
 -- A reading, step by step.
-use Rattle.std.proofs.Common.{◌≡◌, ℕ, zero, suc, eqb, ◌+◌, ◌≤◌, true, false, cond, take, length-take, List, [], ◌∷◌, ◌++◌, Option, None, Some, IfSome, refl, sym, ap, ◌∙◌, subst, arith}
-use Rattle.std.proofs.lemmas.Option.{none-some, same_Some}
-use Rattle.std.specs.List.{last_or}
+use Rattle.board_share.proofs.Names.{[], ap, arith, Arrived, AtRest, Command, cond, eqb, false, IsLegalSheet, last_or}
+use Rattle.board_share.proofs.Names.{Leaving, List, None, none-some, Opening, Option, ReaderSeen, ReaderView, Reading}
+use Rattle.board_share.proofs.Names.{readings_after, refl, same_Some, sheet, Some, Stage, stage_action, subst, suc, sym}
+use Rattle.board_share.proofs.Names.{take, TookStep, true, zero, ℕ, ◌++◌, ◌+◌, ◌∙◌, ◌∷◌, ◌≡◌, ◌≤◌}
+use Rattle.std.proofs.Common.{length-take, IfSome}
 use Rattle.std.specs.Option.{option_map}
 use Rattle.std.specs.Prelude.{IsTrue, is_ok, ◌&&◌}
-use Rattle.council_core.specs.Rolls.{Opening, Roll, opening_roll, next_roll, step, all_accepted, sheet}
+use Rattle.council_core.specs.Rolls.{Roll, opening_roll, next_roll, step, all_accepted}
 use Rattle.council_core.specs.Sheets.{front_of}
 use Rattle.council_core.specs.Sequential.{IsRecordFrom}
-use Rattle.council_core.specs.declared.commands.Command.{Command}
-use Rattle.two_copy_steps.specs.declared.views.ReaderView.{ReaderView}
-use Rattle.two_copy_steps.specs.declared.views.Stage.{Stage}
-use Rattle.two_copy_steps.specs.declared.views.Stage.TheVariants.{AtRest, Arrived, Reading, Leaving}
-use Rattle.two_copy_steps.specs.Actions.{readings_after, stage_action}
 use Rattle.two_copy_steps.specs.Lawful.{last_front}
 use Rattle.two_copy_steps.specs.Stages.{IsReadable, sheet_read, steps_taken, last_step}
 use Rattle.two_copy_steps.specs.States.{EndsWith}
 use Rattle.board_share.specs.declared.readers.Reading as reading
-use Rattle.two_copy_steps.proofs.StageFacts as stages
 use Rattle.board_share.proofs.Histories.{last_pushed}
-use Rattle.board_share.specs.Readers.{ReaderSeen, TookStep, HasLegalRecord, IsLegalSheet, last_of}
+use Rattle.board_share.specs.Readers.{HasLegalRecord, last_of}
+use Rattle.two_copy_steps.proofs.Face as stages
 
 -- the steps are counted one by one
 pub counted : (p p' : ReaderSeen) → TookStep p p' → IsReadable p.stage → steps_taken p'.stage ≡ cond (eqb (steps_taken p.stage) last_step) 0 (steps_taken p.stage + 1)

@@ -1,25 +1,14 @@
 -- Histories of a board over a register of one member, computed; and what definitions must not hold of.
-use Rattle.std.proofs.Common.{◌≡◌, ℕ, true, false, List, [], ◌∷◌, ◌++◌, replicate, None, Some, refl, ap, ◌∙◌}
-use Rattle.std.specs.List.{filter}
-use Rattle.atomic_table.specs.Seated.{TableId}
-use Rattle.council_core.specs.Ledgers.{Ledger}
-use Rattle.council_core.specs.Rolls.{Opening}
-use Rattle.council_core.specs.declared.commands.Command.{Command}
-use Rattle.council_core.specs.declared.commands.Command.TheVariants.{Open, Move}
-use Rattle.two_copy_steps.specs.declared.events.Event.{Event}
-use Rattle.two_copy_steps.specs.declared.events.Event.TheVariants.{Submit, Publish, Writer, Reader}
-use Rattle.two_copy_steps.specs.declared.events.Note.TheVariants.{Busy, Published, Read}
-use Rattle.two_copy_steps.specs.declared.views.Phase.TheVariants.{Idle}
-use Rattle.two_copy_steps.specs.declared.views.Stage.TheVariants.{AtRest, Arrived}
-use Rattle.board_share.specs.declared.views.ShareStart.{ShareStart}
-use Rattle.board_share.specs.declared.views.History.{History}
-use Rattle.board_share.specs.declared.views.View.{View}
-use Rattle.board_share.specs.Histories.{Adds, first_history, is_writers, last_reported, history_with}
-use Rattle.board_share.specs.Openings.{share_start, new_publisher, new_readers}
-use Rattle.board_share.specs.Readers.{HasLegalRecord, IsLegalSheet, ReaderSeen, TookStep, WasReported, last_front_of, last_of, new_reader, part_in, reader_at}
-use Rattle.board_share.specs.Rule.{first_reader, opening_view}
-use Rattle.board_share.specs.Seats.{Part, seat_of_reader}
-use Rattle.board_share.specs.Writers.{look_count, publication, publication_steps}
+use Rattle.board_share.proofs.Names.{[], Adds, ap, Arrived, AtRest, Busy, Command, Event, false, filter, first_history}
+use Rattle.board_share.proofs.Names.{first_reader, History, history_with, Idle, is_writers, IsLegalSheet, last_reported}
+use Rattle.board_share.proofs.Names.{Ledger, List, look_count, new_reader, new_readers, None, Open, Opening}
+use Rattle.board_share.proofs.Names.{opening_view, Part, publication_steps, Publish, Published, Read, Reader, reader_at}
+use Rattle.board_share.proofs.Names.{ReaderSeen, refl, replicate, seat_of_reader, ShareStart, Some, Submit, TableId}
+use Rattle.board_share.proofs.Names.{TookStep, true, View, Writer, ℕ, ◌++◌, ◌∙◌, ◌∷◌, ◌≡◌}
+use Rattle.council_core.specs.declared.commands.Command.TheVariants.{Move}
+use Rattle.board_share.specs.Openings.{share_start, new_publisher}
+use Rattle.board_share.specs.Readers.{HasLegalRecord, WasReported, last_front_of, last_of, part_in}
+use Rattle.board_share.specs.Writers.{publication}
 
 abbrev pub one_member : Opening
 one_member = (65 ∷ 65 ∷ 65 ∷ [], 10) ∷ []

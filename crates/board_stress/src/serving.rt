@@ -4,7 +4,7 @@ use anyhow::{Result, bail};
 use board_serve::{Gate, GateClosed, Place, serve};
 use council_core::MAX_COMMANDS;
 use fixtures::Draws;
-use recording_io::RecordingReader;
+use recording_io::{RecordingReader, RecordingWriter};
 use std::alloc::Global;
 use std::sync::Wait;
 use std::thread::Threads;
@@ -60,6 +60,7 @@ pub(crate) fn serve_drawn<R: Threads + Wait + Sync>(
     let text = input(alloc, &mut Draws::new(seed))?;
     let mut input = RecordingReader::new(text.as_bytes());
     let (gate, mut out) = (PausingGate(seed), Vec::new(alloc));
+    let mut out = RecordingWriter::new(&mut out);
     match serve(rt, alloc, &gate, &mut input, &mut out, MAX_COMMANDS) {
         Ok(_) => Ok(()),
         Err(fault) => bail!("serve: fault {}", fault.code),

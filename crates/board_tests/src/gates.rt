@@ -1,5 +1,7 @@
 //! Tests of `serve` with gates that hold its threads, or close.
-use board_report::{Fault, Gate, GateClosed, Place, RecordingReader, Served, serve};
+use board_report::{
+    Fault, Gate, GateClosed, Place, RecordingReader, RecordingWriter, Served, serve,
+};
 use fixtures::THREE_PUBLICATIONS;
 use std::alloc::Global;
 use std::sync::Wait;
@@ -158,7 +160,14 @@ fn serve_under<G: Gate, R: Threads + Wait + Sync>(
 ) -> (Result<Served, Fault>, Vec<u8>) {
     let mut input = RecordingReader::new(THREE_PUBLICATIONS.input.as_bytes());
     let mut out: Vec<u8> = Vec::new(alloc);
-    let result = serve(rt, alloc, gate, &mut input, &mut out, 10);
+    let result = serve(
+        rt,
+        alloc,
+        gate,
+        &mut input,
+        &mut RecordingWriter::new(&mut out),
+        10,
+    );
     (result, out)
 }
 
@@ -223,7 +232,8 @@ fn twelve_of_each(rt: HostRuntime) -> Result<(), Fail> {
     }
     let mut input = RecordingReader::new(text.as_slice());
     let mut out: Vec<u8> = Vec::new(rt.alloc());
-    let result = serve(&rt, rt.alloc(), &gate, &mut input, &mut out, 10);
+    let mut recorder = RecordingWriter::new(&mut out);
+    let result = serve(&rt, rt.alloc(), &gate, &mut input, &mut recorder, 10);
     assert!(rt; result.is_ok());
     for passed in [&gate.writer, &gate.first, &gate.second] {
         assert_eq!(rt; passed.load(Ordering::SeqCst), 24);

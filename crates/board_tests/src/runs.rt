@@ -1,6 +1,6 @@
 //! Runs the program over devices in memory.
 use crate::devices::{BYTE, Device, INTERRUPTED, Plan};
-use board_report::{RecordingReader, process};
+use board_report::{RecordingReader, RecordingWriter, process};
 use std::alloc::{AllocError, Global};
 use std::env::Args;
 use std::io;
@@ -79,7 +79,14 @@ pub(crate) fn run_args<T: Threads + Wait + Sync>(
     let mut reader = RecordingReader::new(Device::new(alloc, reads, &calls, input));
     let mut out = Device::new(alloc, writes, &others[0], b"");
     let mut err = Device::new(alloc, HALTING, &others[1], b"");
-    let code = process(rt, alloc, args, &mut reader, &mut out, &mut err);
+    let code = process(
+        rt,
+        alloc,
+        args,
+        &mut reader,
+        &mut RecordingWriter::new(&mut out),
+        &mut RecordingWriter::new(&mut err),
+    );
     Ok(Ended {
         code,
         out: out.into_taken(),

@@ -1,8 +1,8 @@
 -- The course of a whole input.
-use Rattle.std.proofs.Common.{◌≡◌, ◌≤◌, ℕ, true, List, [], length, Option, Result, Ok, Err, refl, sym, subst}
+use Rattle.std.proofs.Common.{◌≡◌, ◌≤◌, ℕ, true, List, [], length, Option, Result, refl, sym, subst}
 use Rattle.std.proofs.KnownBytes.{Appends-nil}
 use Rattle.csv.specs.Reading.{default_config, records, strip_bom}
-use Rattle.recording_io.specs.Tapes.{Giving, OfInput}
+use Rattle.recording_io.specs.Tapes.{ReaderRecord, OfInput}
 use Rattle.board_text.specs.Lines.{LineBytes}
 use Rattle.board_text.specs.Text.{Started, started_of, started_after, in_range, opened_of}
 use Rattle.board_text.specs.Scripts.{Course, started_course, run_in}
@@ -28,7 +28,7 @@ pub writes-failed : (a : Option (List ℕ)) (e d : Stop) {S : Type 0} (interpret
 writes-failed a e d interpret spec same p = let P : Stop → Type 0 = λ s. WritesUntilStop a a s (run_in (started_course interpret spec)) in subst P (sym same) (fails-stop a e interpret spec p)
 
 -- the same of an input
-pub writes-failed_input : (from to : Giving) (a : Option (List ℕ)) (e d : Stop) {S : Type 0} (lim : Limits) (interpret : Started → Course S) → d ≡ e
+pub writes-failed_input : (from to : ReaderRecord) (a : Option (List ℕ)) (e d : Stop) {S : Type 0} (lim : Limits) (interpret : Started → Course S) → d ≡ e
     → OfInput from to (λ bytes. Fails e (started_of lim bytes)) → OfInput from to (λ bytes. WritesUntilStop a a d (run_in (started_course interpret (started_of lim bytes))))
 writes-failed_input from to a e d lim interpret same p = λ bytes is. writes-failed a e d interpret (started_of lim bytes) same (p bytes is)
 
@@ -40,6 +40,6 @@ pub record TextRead (lim : Limits) (text : List ℕ) : Type 0 where
   pub short : length input ≤ 4194304
 
 -- the text that was read is the input
-pub start-input : (from to : Giving) (lim : Limits) (text : List ℕ) (read : TextRead lim text) → OfInput from to (λ bytes. read.input ≡ bytes)
+pub start-input : (from to : ReaderRecord) (lim : Limits) (text : List ℕ) (read : TextRead lim text) → OfInput from to (λ bytes. read.input ≡ bytes)
     → OfInput from to (λ bytes. started_of lim bytes ≡ started_after lim (opened_of (records default_config (strip_bom text))))
 start-input from to lim text read whole = λ bytes is. rw (← whole bytes is, read.same) (start-records lim read.input read.fits read.short)

@@ -8,16 +8,14 @@ use Rattle.csv.specs.Reading.{default_config, records, strip_bom}
 use Rattle.council_core.specs.declared.commands.Command.TheVariants.{Admit, Close, Move, Open, Restore, SetVotes, Suspend, Withdraw}
 use Rattle.council_core.specs.declared.refusals.Refusal.TheVariants.{BadRecord, TooManyMembers}
 use Rattle.majority_rule.specs.declared.majorities.Majority.TheVariants.{Half, Seventy, Quorum}
-use Rattle.board_text.specs.Laws.{ActLaw, InputLaw, IsReading, MajorityLaw, MemberLaw, NoOtherNumberLaw, NumberLaw, OneWordLaw, ReadingLaw, RequestLaw}
+use Rattle.board_text.specs.Laws.{InputLaw, IsReading, MajorityLaw, MemberLaw, NoOtherNumberLaw, NumberLaw, OneWordLaw, ReadingLaw, RequestLaw}
 use Rattle.board_text.specs.Lines.{reading_lines}
 use Rattle.board_text.specs.Numbers.{number_of_digits}
 use Rattle.board_text.specs.Requests.{member_of, request_of, submission}
-use Rattle.board_text.specs.Schedules.{act_of}
 use Rattle.board_text.specs.Text.{fault_at, opened_of, opening_of}
 use Rattle.majority_rule.specs.Majorities.{majority_of}
-use Rattle.board_text.specs.Writing.{Field, IsAct, IsCommand, IsMember, IsRequest, act_row, written_rows, member_row, request_row, row_text, rows_text}
+use Rattle.board_text.specs.Writing.{Field, IsCommand, IsMember, IsRequest, written_rows, member_row, request_row, row_text, rows_text}
 use Rattle.board_text.specs.declared.requests.Request.TheVariants as ask
-use Rattle.board_text.specs.declared.schedules.Act.TheVariants as act
 
 -- the largest number of 64 bits reads back, and the next one isn't a number
 number_law_used : NumberLaw → number_of_digits (codes "18446744073709551615") ≡ Some 18446744073709551615
@@ -65,10 +63,6 @@ request_law_used law = law (submission (Open 2)) (omega arith, omega arith) (quo
 move_law_used : RequestLaw → map request_of (records default_config (codes "move,\"AAA\",none\n")) ≡ Some (submission (Move (65 ∷ 65 ∷ 65 ∷ []) None)) ∷ []
 move_law_used law = law (submission (Move (65 ∷ 65 ∷ 65 ∷ []) None)) (refl, tt) (plain (codes "move") ∷ quoted (codes "AAA") ∷ plain (codes "none") ∷ []) refl
 
-act_law_used : ActLaw → map act_of (records default_config (codes "reader,2,\"5\"\n")) ≡ Some (act.Reader 2 5) ∷ []
-unfolding digits
-act_law_used law = law (act.Reader 2 5) (omega arith, (omega arith, omega arith)) (plain (codes "reader") ∷ plain (codes "2") ∷ quoted (codes "5") ∷ []) refl
-
 member_law_used : MemberLaw → map member_of (records default_config (codes "AAA,\"49\"\n")) ≡ Some (65 ∷ 65 ∷ 65 ∷ [], 49) ∷ []
 unfolding digits
 member_law_used law = law (65 ∷ 65 ∷ 65 ∷ [], 49) (refl, omega arith) (plain (codes "AAA") ∷ quoted (codes "49") ∷ []) refl
@@ -95,9 +89,9 @@ unfolding digits
 rows_of_an_input = refl
 
 -- what is out of range has a record that reads as nothing
-records_of_nothing : (request_of (request_row (submission (Open 33))) ≡ None) × (request_of (request_row (submission (SetVotes (65 ∷ 65 ∷ 65 ∷ []) (2 ^ 40 + 1)))) ≡ None) × (request_of (request_row (submission (Suspend (codes "aaa")))) ≡ None) × (request_of (request_row (ask.Read (2 ^ 64) Half)) ≡ None) × (act_of (act_row (act.Writer 1001)) ≡ None) × (member_of (member_row (codes "AA", 1)) ≡ None)
+records_of_nothing : (request_of (request_row (submission (Open 33))) ≡ None) × (request_of (request_row (submission (SetVotes (65 ∷ 65 ∷ 65 ∷ []) (2 ^ 40 + 1)))) ≡ None) × (request_of (request_row (submission (Suspend (codes "aaa")))) ≡ None) × (request_of (request_row (ask.Read (2 ^ 64) Half)) ≡ None) × (member_of (member_row (codes "AA", 1)) ≡ None)
 unfolding digits
-records_of_nothing = (refl, refl, refl, refl, refl, refl)
+records_of_nothing = (refl, refl, refl, refl, refl)
 
 opens_chair_0 : IsCommand (Open 0) → ⊥
 opens_chair_0 is = omega (arith, is.0)
@@ -107,9 +101,6 @@ opens_chair_33 is = omega (arith, is.1)
 
 closes_chair_33 : IsCommand (Close 33) → ⊥
 closes_chair_33 is = omega (arith, is.1)
-
-submits_chair_33 : IsAct (act.Submit (Open 33)) → ⊥
-submits_chair_33 is = omega (arith, is.1)
 
 moves_to_chair_33 : IsCommand (Move (65 ∷ 65 ∷ 65 ∷ []) (Some 33)) → ⊥
 moves_to_chair_33 is = let chair = is.1 in omega (arith, chair.1)
@@ -140,15 +131,6 @@ withdraws_no_member is = true≢false (sym is)
 
 reads_as_too_many : IsRequest (ask.Read (2 ^ 64) Half) → ⊥
 reads_as_too_many is = omega (arith, is)
-
-no_step : IsAct (act.Writer 0) → ⊥
-no_step is = omega (arith, is.0)
-
-too_many_steps : IsAct (act.Reader 1 1001) → ⊥
-too_many_steps is = let count = is.1 in omega (arith, count.1)
-
-steps_as_too_many : IsAct (act.Reader (2 ^ 64) 1) → ⊥
-steps_as_too_many is = omega (arith, is.0)
 
 member_with_too_many : IsMember (65 ∷ 65 ∷ 65 ∷ [], 2 ^ 40 + 1) → ⊥
 member_with_too_many is = omega (arith, is.1)

@@ -9,27 +9,31 @@ use Rattle.council_core.specs.declared.calls.Order.TheVariants as order
 use Rattle.council_core.specs.declared.refusals.Refusal.TheVariants.{BadHeader, BadIndex, BadLimit, BadRecord, ChairOpen, OutOfMemory, ReadFault, WriteFault}
 use Rattle.majority_rule.specs.declared.majorities.Majority.TheVariants.{Half, Seventy, EightyFive, Quorum}
 use Rattle.power_index.specs.Indices.{fraction}
-use Rattle.recording_io.specs.Tapes.{Giving}
-use Rattle.two_copy_steps.specs.declared.events.Note.TheVariants as note
+use Rattle.recording_io.specs.Tapes.{Calls, ReaderRecord, no_calls}
 use Rattle.board_text.specs.Inputs.{Reads}
-use Rattle.board_text.specs.Lines.{audit_line, fault_line, fault_name, fraction_if_any, note_lines, reader_line, reading_lines, reply_line, reply_lines}
-use Rattle.board_text.specs.Output.{Ends, EndsRun, WritesRun, ReadTo, Starts, Writes, WritesSome, at_record, fault_of, stop_of}
+use Rattle.board_text.specs.Lines.{audit_line, fault_line, fault_name, fraction_if_any, reader_line, reading_lines, reply_line, reply_lines}
+use Rattle.board_text.specs.Output.{Ends, EndsRun, WritesRun, ReadTo, Starts, Writes, WritesSome, fault_of, stop_of}
 use Rattle.board_text.specs.Text.{fault_at, ledger_at_start, output, printed_run, run_limits, stopped_run, text_of, with_lines}
 use Rattle.majority_rule.specs.Majorities.{word_of_majority}
 use Rattle.board_text.specs.declared.faults.Fault.{Fault}
 use Rattle.board_text.specs.declared.requests.Request.TheVariants as ask
 use Rattle.board_text.specs.declared.stops.Stop.TheVariants as stop
 
--- chair 1 with 60 of 100 votes, after two commands
-abbrev one_chair : List ℕ
-one_chair = 61 ∷ replicate 31 0 ++ 100 ∷ 2 ∷ []
+-- chairs 2, 4, 6 and 9 with 40, 30, 15 and 5 of 100 votes, after 11 commands: all numbers of a line are different
+abbrev four_chairs : List ℕ
+four_chairs = 0 ∷ 41 ∷ 0 ∷ 31 ∷ 0 ∷ 16 ∷ 0 ∷ 0 ∷ 6 ∷ replicate 23 0 ++ 100 ∷ 11 ∷ []
 
-read_by_half : reading_lines 3 Half one_chair ≡ codes "reading,3,2,half,1,31,60,100,1,2" ∷ codes "chair,1,60,1,1/1,1/1,1/1,1/1" ∷ []
+read_by_half : reading_lines 3 Half four_chairs ≡ codes "reading,3,11,half,4,46,90,100,7,16" ∷ codes "chair,2,40,5,5/8,5/12,5/7,5/9"
+    ∷ codes "chair,4,30,3,3/8,3/12,3/7,3/9" ∷ codes "chair,6,15,3,3/8,3/12,3/7,3/9" ∷ codes "chair,9,5,1,1/8,1/12,1/7,1/9" ∷ []
 unfolding digits
 read_by_half = refl
 
+-- chair 1 with 60 of 100 votes, after five commands
+abbrev one_chair : List ℕ
+one_chair = 61 ∷ replicate 31 0 ++ 100 ∷ 5 ∷ []
+
 -- nothing wins, so that two of the fractions are absent
-read_by_seventy : reading_lines 3 Seventy one_chair ≡ codes "reading,3,2,70,1,70,60,100,0,2" ∷ codes "chair,1,60,0,0/1,-,-,0/2" ∷ []
+read_by_seventy : reading_lines 3 Seventy one_chair ≡ codes "reading,3,5,70,1,70,60,100,0,2" ∷ codes "chair,1,60,0,0/1,-,-,0/2" ∷ []
 unfolding digits
 read_by_seventy = refl
 
@@ -40,19 +44,7 @@ fractions : (fraction (record { num = 3; den = 40 }) ≡ codes "3/40") × (fract
 unfolding digits
 fractions = (refl, refl)
 
--- the lines of each output of the machine
-printed_notes : (note_lines (note.Accepted 6) ≡ codes "accepted,6" ∷ []) × (note_lines (note.Refused ChairOpen) ≡ codes "refused,1,ChairOpen" ∷ []) × (note_lines note.Began ≡ codes "began" ∷ []) × (note_lines (note.Published 6) ≡ codes "published,6" ∷ []) × (note_lines (note.Busy 2) ≡ codes "busy,2" ∷ []) × (note_lines note.Skipped ≡ codes "skipped" ∷ [])
-unfolding digits
-printed_notes = (refl, refl, refl, refl, refl, refl)
-
-printed_sheet : note_lines (note.Read 4 one_chair) ≡ codes "sheet,4,2,60,100" ∷ []
-unfolding digits
-printed_sheet = refl
-
-move_prints_nothing : note_lines note.Moved ≡ []
-move_prints_nothing = refl
-
--- and of each reply of the register
+-- the line of each reply of the register
 printed_replies : (reply_line (answered (answer.Accepted 6)) ≡ codes "accepted,6") × (reply_line (answered (answer.Refused ChairOpen)) ≡ codes "refused,1,ChairOpen") × (reply_line (answered (answer.Published 6)) ≡ codes "published,6")
 unfolding digits
 printed_replies = (refl, refl, refl)
@@ -85,8 +77,8 @@ outputs = (refl, refl)
 faults_of_stops : (fault_of stop.OutOfMemory ≡ Some (fault_at OutOfMemory 0)) × (fault_of stop.ReadFault ≡ Some (fault_at ReadFault 0)) × (fault_of stop.WriteFault ≡ None) × (fault_of (stop.Input (fault_at BadRecord 5)) ≡ Some (fault_at BadRecord 5))
 faults_of_stops = (refl, refl, refl, refl)
 
-stops_of_refusals : (stop_of OutOfMemory ≡ stop.OutOfMemory) × (stop_of BadLimit ≡ stop.Input (fault_at BadLimit 0)) × (at_record {A = Unit {0}} 5 (Err BadRecord) ≡ Err (stop.Input (fault_at BadRecord 5)))
-stops_of_refusals = (refl, refl, refl)
+stops_of_refusals : (stop_of OutOfMemory ≡ stop.OutOfMemory) × (stop_of BadLimit ≡ stop.Input (fault_at BadLimit 0))
+stops_of_refusals = (refl, refl)
 
 -- a write of a text appends all of it, or fails and appends a prefix
 abbrev seven : List ℕ
@@ -204,35 +196,38 @@ stopped_without_its_line : EndsRun {A = Unit {0}} (Some []) (Some []) (Err (stop
 stopped_without_its_line h = fault_without_its_line h
 
 -- one read: bytes were given, or it was interrupted and counted, or the input has ended
-abbrev reader : List ℕ → ℕ → ℕ → Giving
-reader gave vain interruptions = record { left = None; gave = gave; ended = false; asks = vain; vain = vain; interruptions = interruptions }
+abbrev reader : List ℕ → ℕ → ℕ → ReaderRecord
+reader bytes empty interrupted = record { left = None; bytes = bytes; ended = false; calls = record { made = 1; empty = empty; interrupted = interrupted } }
 
-uncounted_retry : Reads (reader [] 0 0) (reader [] 1 1) 0 0 seven None → ⊥
+abbrev unread : ReaderRecord
+unread = record (reader [] 0 0) { calls = no_calls }
+
+uncounted_retry : Reads unread (reader [] 0 1) 0 0 seven None → ⊥
 uncounted_retry h = omega (arith, h.0)
 
-no_interruption : Reads (reader [] 0 0) (reader [] 0 0) 0 1 seven None → ⊥
-no_interruption h = let e = h.1 in omega (arith, e)
+no_interruption : Reads unread (reader [] 1 0) 0 1 seven None → ⊥
+no_interruption h = omega (arith, ap (λ (c : Calls). c.interrupted) h.2)
 
-interrupted_with_a_byte : Reads (reader [] 0 0) (reader seven 1 1) 0 1 seven None → ⊥
-interrupted_with_a_byte h = let e = h.2.gave in cc e
+interrupted_with_a_byte : Reads unread (reader seven 0 1) 0 1 seven None → ⊥
+interrupted_with_a_byte h = let e = h.1.bytes in cc e
 
-retried_in_vain : Reads (reader [] 0 0) (reader [] 2 1) 0 1 seven None → ⊥
-retried_in_vain h = let e = h.3 in omega (arith, e)
+retried_in_vain : Reads unread (reader [] 1 1) 0 1 seven None → ⊥
+retried_in_vain h = omega (arith, ap (λ (c : Calls). c.empty) h.2)
 
-counted_a_byte : Reads (reader [] 0 0) (reader seven 0 0) 0 1 seven (Some 1) → ⊥
+counted_a_byte : Reads unread (reader seven 0 0) 0 1 seven (Some 1) → ⊥
 counted_a_byte h = let e = h.0 in omega (arith, e)
 
-more_than_the_piece : Reads (reader [] 0 0) (reader seven 0 0) 0 0 seven (Some 2) → ⊥
+more_than_the_piece : Reads unread (reader seven 0 0) 0 0 seven (Some 2) → ⊥
 more_than_the_piece h = let e = h.1 in omega (arith, e)
 
-another_byte_given : Reads (reader [] 0 0) (reader (8 ∷ []) 0 0) 0 0 seven (Some 1) → ⊥
-another_byte_given h = let e = h.2.gave in cc e
+another_byte_given : Reads unread (reader (8 ∷ []) 0 0) 0 0 seven (Some 1) → ⊥
+another_byte_given h = let e = h.2.bytes in cc e
 
-end_made_up : Reads (reader [] 0 0) (reader [] 1 0) 0 0 seven (Some 0) → ⊥
+end_made_up : Reads unread (reader [] 1 0) 0 0 seven (Some 0) → ⊥
 end_made_up h = let e = (h.3 refl (omega arith)).0 in cc e
 
-byte_in_vain : Reads (reader [] 0 0) (reader seven 1 0) 0 0 seven (Some 1) → ⊥
-byte_in_vain h = let e = h.4 (omega arith) in omega (arith, e)
+byte_in_vain : Reads unread (reader seven 1 0) 0 0 seven (Some 1) → ⊥
+byte_in_vain h = omega (arith, ap (λ (c : Calls). c.empty) h.4)
 
-interruption_of_a_byte : Reads (reader [] 0 0) (reader seven 1 1) 0 0 seven (Some 1) → ⊥
-interruption_of_a_byte h = let e = h.5 in omega (arith, e)
+interruption_of_a_byte : Reads unread (reader seven 0 1) 0 0 seven (Some 1) → ⊥
+interruption_of_a_byte h = omega (arith, ap (λ (c : Calls). c.interrupted) h.4)

@@ -7,20 +7,17 @@ use Rattle.std.proofs.lemmas.List.{take_all}
 use Rattle.std.proofs.lemmas.List.Sums.{take_while-cons}
 use Rattle.council_core.specs.Rolls.{Opening}
 use Rattle.council_core.specs.declared.limits.TheConstants.{MAX_MEMBERS}
-use Rattle.two_copy_steps.specs.Lawful.{IsPrefix}
 use Rattle.board_text.specs.Requests.{Row, is_header, is_mark, member_of}
 use Rattle.board_text.specs.Text.{Opened, before_mark, is_no_member, members_before, members_in, opened_of, opening_of, unless_bad}
 use Rattle.board_text.specs.declared.faults.Fault.{Fault}
 use Rattle.board_text.specs.declared.stops.Stop.{Stop}
 use Rattle.board_text.specs.declared.stops.Stop.TheVariants as stop
-use Rattle.board_text.specs.Output.{ReadTo}
+use Rattle.board_text.specs.Output.{IsPrefixOf, ReadTo}
 use Rattle.board_text.proofs.OpeningFacts.{front-more}
+use Rattle.board_text.proofs.RunFacts.{front-none}
 
-pub front-whole : {A : Type 0} (xs : List A) → IsPrefix xs xs
+pub front-whole : {A : Type 0} (xs : List A) → IsPrefixOf xs xs
 front-whole xs = ([], sym (append-nil xs))
-
-pub front-none : {A : Type 0} (xs : List A) → IsPrefix [] xs
-front-none xs = (xs, refl)
 
 -- the members read in all, after `members` were read and at most `room` more are allowed
 unfoldable pub members_after : Opening → ℕ → List Row → Opening
@@ -64,12 +61,12 @@ module _ (members : Opening) (room : ℕ) (rs : List Row) where
           rw (next, more, front-more r ss mark, good-more r (take left (before_mark ss)) good, found) (sym (append_assoc members (m ∷ []) _))
 
 -- the members so far are the first of all
-pub before-front : (members : Opening) (room : ℕ) (rs : List Row) → IsPrefix members (members_after members room rs)
+pub before-front : (members : Opening) (room : ℕ) (rs : List Row) → IsPrefixOf members (members_after members room rs)
 unfolding members_after
 before-front members room rs = (filter_map member_of (before_first is_no_member (take room (before_mark rs))), refl)
 
 -- where memory ran out, the members so far are a part
-broken-stop : (e : Stop) (ms all : Opening) → IsPrefix ms all → (e ≡ stop.OutOfMemory) ⊎ (e ≡ stop.ReadFault) → ReadTo {T = ℕ} (Err e) ms all
+broken-stop : (e : Stop) (ms all : Opening) → IsPrefixOf ms all → (e ≡ stop.OutOfMemory) ⊎ (e ≡ stop.ReadFault) → ReadTo {T = ℕ} (Err e) ms all
 broken-stop e ms all front (inl is) = rw is front
 broken-stop e ms all front (inr is) = rw is front
 

@@ -10,14 +10,12 @@ use Rattle.csv.specs.Reading.{default_config, records, strip_bom}
 use Rattle.majority_rule.specs.declared.majorities.Majority.TheVariants.{Half, Seventy, EightyFive, Quorum}
 use Rattle.board_text.specs.Numbers.{number_of_digits}
 use Rattle.board_text.specs.Requests.{Row, call_of, command_of, is_header, is_mark, member_of, reading_of, request_of}
-use Rattle.board_text.specs.Schedules.{act_of, act_within, count_of}
 use Rattle.board_text.specs.Text.{started_of, fault_at, in_range, is_reader, ledger_at_start, members_before, members_in, opened_of, opening_of, request_within, started_after, run_limits, unpublished_register}
 use Rattle.majority_rule.specs.Majorities.{majority_of}
 use Rattle.board_text.specs.Words.{chair_of, code_of_member, target_chair, votes_of}
 use Rattle.board_text.specs.declared.bounds.Limits.{Limits}
 use Rattle.board_text.specs.declared.input.TheConstants.{INPUT_LIMIT}
 use Rattle.board_text.specs.declared.requests.Request.TheVariants as ask
-use Rattle.board_text.specs.declared.schedules.Act.TheVariants as act
 
 -- the most bytes of an input, so that a changed constant is rejected
 longest_input : INPUT_LIMIT ≡ 4194304
@@ -112,19 +110,6 @@ readers_of_two = (refl, refl, refl, refl)
 
 requests_refused : (request_within (run_limits 2 9) (codes "read" ∷ codes "3" ∷ codes "half" ∷ []) ≡ Err BadReader) × (request_within (run_limits 2 9) (codes "read" ∷ codes "3" ∷ codes "none" ∷ []) ≡ Err BadRecord) × (request_within (run_limits 2 9) (codes "read" ∷ codes "2" ∷ codes "half" ∷ []) ≡ Ok (ask.Read 2 Half))
 requests_refused = (refl, refl, refl)
-
--- a schedule takes from 1 to 1,000 steps at once, and commands after the word submit
-steps_at_once : (count_of (codes "0") ≡ None) × (count_of (codes "1") ≡ Some 1) × (count_of (codes "1000") ≡ Some 1000) × (count_of (codes "1001") ≡ None)
-steps_at_once = (refl, refl, refl, refl)
-
-acts : (act_of (codes "publish" ∷ []) ≡ Some act.Publish) × (act_of (codes "writer" ∷ codes "5" ∷ []) ≡ Some (act.Writer 5)) × (act_of (codes "reader" ∷ codes "2" ∷ codes "5" ∷ []) ≡ Some (act.Reader 2 5)) × (act_of (codes "submit" ∷ codes "open" ∷ codes "2" ∷ []) ≡ Some (act.Submit (Open 2))) × (act_of (codes "submit" ∷ codes "move" ∷ codes "AAA" ∷ codes "2" ∷ []) ≡ Some (act.Submit (Move AAA (Some 2))))
-acts = (refl, refl, refl, refl, refl)
-
-no_acts : (act_of (codes "submit" ∷ []) ≡ None) × (act_of (codes "submits" ∷ codes "open" ∷ codes "2" ∷ []) ≡ None) × (act_of (codes "writer" ∷ codes "1001" ∷ []) ≡ None) × (act_of (codes "open" ∷ codes "2" ∷ []) ≡ None) × (act_of [] ≡ None)
-no_acts = (refl, refl, refl, refl, refl)
-
-acts_refused : (act_within (run_limits 2 9) (codes "reader" ∷ codes "3" ∷ codes "5" ∷ []) ≡ Err BadReader) × (act_within (run_limits 2 9) (codes "reader" ∷ codes "3" ∷ codes "0" ∷ []) ≡ Err BadRecord) × (act_within (run_limits 2 9) (codes "reader" ∷ codes "2" ∷ codes "5" ∷ []) ≡ Ok (act.Reader 2 5))
-acts_refused = (refl, refl, refl)
 
 -- from one to four readers, and a journal of one to a million commands
 limits_in_range : (in_range (run_limits 1 1) ≡ true) × (in_range (run_limits 4 1000000) ≡ true)

@@ -1,4 +1,4 @@
--- Requests, acts and members, written as records and read back.
+-- Requests and members, written as records and read back.
 use Rattle.std.proofs.Common.{◌≡◌, ◌≤◌, ◌<◌, ◌^◌, ℕ, false, List, [], ◌∷◌, map, append-nil, Option, Some, None, IfSome, refl, sym, ap, ◌∙◌, subst, arith}
 use Rattle.std.specs.Prelude.{codes, decimal}
 use Rattle.std.proofs.lemmas.Bool.{false_from_ne_true, le-leb}
@@ -14,14 +14,11 @@ use Rattle.majority_rule.specs.declared.majorities.Majority.{Majority}
 use Rattle.majority_rule.specs.declared.majorities.Majority.TheVariants.{Half, Seventy, EightyFive, Quorum}
 use Rattle.board_text.specs.Laws.{ReadsBack}
 use Rattle.board_text.specs.Requests.{Row, command_of, member_of, request_of}
-use Rattle.board_text.specs.Schedules.{act_of, count_of}
 use Rattle.majority_rule.specs.Majorities.{word_of_majority}
 use Rattle.board_text.specs.Words.{chair_of, code_of_member, target_chair, votes_of}
-use Rattle.board_text.specs.Writing.{IsAct, IsChair, IsCommand, IsCount, IsMember, IsRequest, act_row, command_row, member_row, request_row, row_text, target_field}
+use Rattle.board_text.specs.Writing.{IsChair, IsCommand, IsMember, IsRequest, command_row, member_row, request_row, row_text, target_field}
 use Rattle.board_text.specs.declared.requests.Request.{Request}
 use Rattle.board_text.specs.declared.requests.Request.TheVariants as ask
-use Rattle.board_text.specs.declared.schedules.Act.{Act}
-use Rattle.board_text.specs.declared.schedules.Act.TheVariants as act
 use Rattle.board_text.proofs.NumberFacts.{number-back}
 use Rattle.board_text.proofs.WordFacts.{word-back}
 use Rattle.board_text.proofs.WritingFacts.{IsPlain, IsPlainRow, code-plain, code-some, number-plain, rows-read}
@@ -31,9 +28,6 @@ chair-back c is = rw (number-back c (omega (arith, is.1))) (rw (le-leb 1 c is.0,
 
 votes-back : (n : ℕ) → n ≤ 2 ^ 40 → votes_of (decimal n) ≡ Some n
 votes-back n small = rw (number-back n (omega (arith, small))) (rw (le-leb 0 n (omega arith), le-leb n (2 ^ 40) small) refl)
-
-count-back : (n : ℕ) → IsCount n → count_of (decimal n) ≡ Some n
-count-back n is = rw (number-back n (omega (arith, is.1))) (rw (le-leb 1 n is.0, le-leb n 1000 is.1) refl)
 
 code-back : (code : List ℕ) → IsCode code → code_of_member code ≡ Some code
 code-back code is = rw is refl
@@ -46,7 +40,7 @@ target-back : (to : Option ℕ) → IfSome to IsChair → target_chair (target_f
 target-back None is = refl
 target-back (Some c) is = rw (not-none c (omega (arith, is.1)), chair-back c is) refl
 
-command-back : (command : Command) → IsCommand command → command_of (command_row command) ≡ Some command
+pub command-back : (command : Command) → IsCommand command → command_of (command_row command) ≡ Some command
 command-back (Open c) is = rw (chair-back c is) refl
 command-back (Close c) is = rw (chair-back c is) refl
 command-back (Move code to) is = rw (code-back code is.0, target-back to is.1) refl
@@ -68,19 +62,6 @@ request-back (ask.Order (order.Submit (Withdraw code))) is = rw (command-back (W
 request-back (ask.Order order.Publish) is = refl
 request-back (ask.Read reader m) is = rw (number-back reader is, word-back m) refl
 
-act-back : (a : Act) → IsAct a → act_of (act_row a) ≡ Some a
-act-back (act.Submit (Open c)) is = rw (command-back (Open c) is) refl
-act-back (act.Submit (Close c)) is = rw (command-back (Close c) is) refl
-act-back (act.Submit (Move code to)) is = rw (command-back (Move code to) is) refl
-act-back (act.Submit (SetVotes code n)) is = rw (command-back (SetVotes code n) is) refl
-act-back (act.Submit (Suspend code)) is = rw (command-back (Suspend code) is) refl
-act-back (act.Submit (Restore code)) is = rw (command-back (Restore code) is) refl
-act-back (act.Submit (Admit code n)) is = rw (command-back (Admit code n) is) refl
-act-back (act.Submit (Withdraw code)) is = rw (command-back (Withdraw code) is) refl
-act-back act.Publish is = refl
-act-back (act.Writer count) is = rw (count-back count is) refl
-act-back (act.Reader number count) is = rw (number-back number is.0, count-back count is.1) refl
-
 pub member-back : (m : List ℕ × ℕ) → IsMember m → member_of (member_row m) ≡ Some m
 member-back m is = rw (code-back m.0 is.0, votes-back m.1 is.1) refl
 
@@ -95,7 +76,7 @@ target-plain : (to : Option ℕ) → IfSome to IsChair → IsPlain (target_field
 target-plain None is = refl
 target-plain (Some c) is = number-plain c (omega (arith, is.1))
 
-command-plain : (command : Command) → IsCommand command → IsPlainRow (command_row command)
+pub command-plain : (command : Command) → IsCommand command → IsPlainRow (command_row command)
 command-plain (Open c) is = record { starts = omega arith; plain = (refl, (number-plain c (omega (arith, is.1)), tt)) }
 command-plain (Close c) is = record { starts = omega arith; plain = (refl, (number-plain c (omega (arith, is.1)), tt)) }
 command-plain (Move code to) is = record { starts = omega arith; plain = (refl, (code-plain code is.0, (target-plain to is.1, tt))) }
@@ -110,26 +91,17 @@ request-plain (ask.Order (order.Submit command)) is = command-plain command is
 request-plain (ask.Order order.Publish) is = record { starts = omega arith; plain = (refl, tt) }
 request-plain (ask.Read reader m) is = record { starts = omega arith; plain = (refl, (number-plain reader is, (word-plain m, tt))) }
 
-act-plain : (a : Act) → IsAct a → IsPlainRow (act_row a)
-act-plain (act.Submit command) is = record { starts = omega arith; plain = (refl, (command-plain command is).plain) }
-act-plain act.Publish is = record { starts = omega arith; plain = (refl, tt) }
-act-plain (act.Writer count) is = record { starts = omega arith; plain = (refl, (number-plain count (omega (arith, is.1)), tt)) }
-act-plain (act.Reader number count) is = record { starts = omega arith; plain = (refl, (number-plain number is.0, (number-plain count (omega (arith, is.1.1)), tt))) }
-
 pub member-plain : (m : List ℕ × ℕ) → IsMember m → IsPlainRow (member_row m)
 member-plain m is = record { starts = code-some m.0 is.0; plain = (code-plain m.0 is.0, (number-plain m.1 (omega (arith, is.1)), tt)) }
 
 -- a plain record of which the fields read as this
-reads-back : {A : Type 0} (read : Row → Option A) (row : Row) (a : A) → IsPlainRow row → read row ≡ Some a → ReadsBack read row a
+pub reads-back : {A : Type 0} (read : Row → Option A) (row : Row) (a : A) → IsPlainRow row → read row ≡ Some a → ReadsBack read row a
 reads-back read row a plain back = λ fields same.
     ap (map read) (ap (records default_config) (sym (append-nil (row_text fields))) ∙ rows-read (fields ∷ []) (subst IsPlainRow (sym same) plain, tt))
     ∙ ap (λ o. o ∷ []) (ap read same ∙ back)
 
 pub request-law : (request : Request) → IsRequest request → ReadsBack request_of (request_row request) request
 request-law request is = reads-back request_of (request_row request) request (request-plain request is) (request-back request is)
-
-pub act-law : (a : Act) → IsAct a → ReadsBack act_of (act_row a) a
-act-law a is = reads-back act_of (act_row a) a (act-plain a is) (act-back a is)
 
 pub member-law : (m : List ℕ × ℕ) → IsMember m → ReadsBack member_of (member_row m) m
 member-law m is = reads-back member_of (member_row m) m (member-plain m is) (member-back m is)

@@ -6,21 +6,20 @@ use Rattle.std.proofs.KnownBytes.{Appends-trans, Appends-nil}
 use Rattle.std.specs.Io.KnownBytes.{Appends}
 use Rattle.board_text.specs.Lines.{LineBytes}
 use Rattle.board_text.specs.Text.{Run, with_lines, line_text, printed_run, text_of}
-use Rattle.two_copy_steps.specs.Lawful.{IsPrefix}
-use Rattle.board_text.specs.Output.{AppendsFront, WritesRun, WritesUntilStop, Writes}
+use Rattle.board_text.specs.Output.{AppendsFront, IsPrefixOf, Writes, WritesRun, WritesUntilStop}
 use Rattle.board_text.specs.declared.stops.Stop.{Stop}
 use Rattle.board_text.specs.declared.stops.Stop.TheVariants as stop
 use Rattle.board_text.proofs.IndexFacts.{StandsAt, first-more, found-at, split-at}
 
-pub front-none : {A : Type 0} (xs : List A) → IsPrefix [] xs
+pub front-none : {A : Type 0} (xs : List A) → IsPrefixOf [] xs
 front-none xs = (xs, refl)
 
 -- a front, after what comes before
-pub front-after : {A : Type 0} (done f xs : List A) → IsPrefix f xs → IsPrefix (done ++ f) (done ++ xs)
+pub front-after : {A : Type 0} (done f xs : List A) → IsPrefixOf f xs → IsPrefixOf (done ++ f) (done ++ xs)
 front-after done f xs h = (h.0, ap (λ l. done ++ l) h.1 ∙ sym (append_assoc done f h.0))
 
 -- a prefix of a list is a prefix of a longer list
-pub front-before : {A : Type 0} (f xs ys : List A) → IsPrefix f xs → IsPrefix f (xs ++ ys)
+pub front-before : {A : Type 0} (f xs ys : List A) → IsPrefixOf f xs → IsPrefixOf f (xs ++ ys)
 front-before f xs ys h = (h.0 ++ ys, ap (λ l. l ++ ys) h.1 ∙ append_assoc f h.0 ys)
 
 pub text-after : (a b : List (List ℕ)) → text_of (a ++ b) ≡ text_of a ++ text_of b
@@ -37,7 +36,7 @@ stops-after : (a b c : Option (List ℕ)) (done : List (List ℕ)) (e : Stop) (r
 stops-after a b c done stop.OutOfMemory run p q = (done ++ q.0, front-after done q.0 run.lines q.1, lines-then a b c done q.0 p q.2)
 stops-after a b c done stop.ReadFault run p q = (done ++ q.0, front-after done q.0 run.lines q.1, lines-then a b c done q.0 p q.2)
 stops-after a b c done stop.WriteFault run p q =
-    let P : List ℕ → Type 0 = λ t. IsPrefix (text_of done ++ q.0) t in
+    let P : List ℕ → Type 0 = λ t. IsPrefixOf (text_of done ++ q.0) t in
     (text_of done ++ q.0, subst P (sym (text-after done run.lines)) (front-after (text_of done) q.0 (text_of run.lines) q.1), Appends-trans a b c _ _ p q.2)
 stops-after a b c done (stop.Input f) run p q = (q.0, lines-then a b c done run.lines p q.1)
 
@@ -51,13 +50,13 @@ pub writes-more : (a b : Option (List ℕ)) (e : Stop) (ls : List (List ℕ)) (r
 writes-more a b stop.OutOfMemory ls run p = (p.0, front-before p.0 ls run.lines p.1, p.2)
 writes-more a b stop.ReadFault ls run p = (p.0, front-before p.0 ls run.lines p.1, p.2)
 writes-more a b stop.WriteFault ls run p =
-    let P : List ℕ → Type 0 = λ t. IsPrefix p.0 t in
+    let P : List ℕ → Type 0 = λ t. IsPrefixOf p.0 t in
     (p.0, subst P (sym (text-after ls run.lines)) (front-before p.0 (text_of ls) (text_of run.lines) p.1), p.2)
 writes-more a b (stop.Input f) ls run p = cc p.0
 
 written-line : (a b : Option (List ℕ)) (e : Stop) (l : List ℕ) → e ≡ stop.WriteFault → AppendsFront a b (line_text l) → WritesUntilStop a b e (printed_run (l ∷ []))
 written-line a b stop.WriteFault l e p =
-    let P : List ℕ → Type 0 = λ t. IsPrefix p.0 t in
+    let P : List ℕ → Type 0 = λ t. IsPrefixOf p.0 t in
     (p.0, subst P (sym (append-nil (line_text l))) p.1, p.2)
 written-line a b stop.OutOfMemory l e p = cc e
 written-line a b stop.ReadFault l e p = cc e
@@ -168,6 +167,6 @@ line-then a b c ls l p q = lines-then a b c ls (l ∷ []) p (appends-same b c _ 
 -- lines, and a prefix of one more
 pub front-then : (a b c : Option (List ℕ)) (ls : List LineBytes) (l : LineBytes) → Appends a b (text_of ls) → AppendsFront b c (line_text l) → AppendsFront a c (text_of (ls ++ l ∷ []))
 front-then a b c ls l p q =
-    let P : List ℕ → Type 0 = λ t. IsPrefix (text_of ls ++ q.0) t in
+    let P : List ℕ → Type 0 = λ t. IsPrefixOf (text_of ls ++ q.0) t in
     let whole : text_of (ls ++ l ∷ []) ≡ text_of ls ++ line_text l = text-after ls (l ∷ []) ∙ ap (λ t. text_of ls ++ t) (append-nil (line_text l)) in
     (text_of ls ++ q.0, subst P (sym whole) (front-after (text_of ls) q.0 (line_text l) q.1), Appends-trans a b c _ _ p q.2)

@@ -2,7 +2,7 @@
 use Rattle.std.proofs.Common.{◌≡◌, ◌<◌, ◌≤◌, ◌⊎◌, inl, inr, ℕ, true, false, List, length, IfErr, Result, Ok, Err, refl, ap}
 use Rattle.std.proofs.lemmas.Bool.{le-leb, lt-leb}
 use Rattle.csv.specs.Reading.{default_config, records, strip_bom}
-use Rattle.recording_io.specs.Tapes.{Giving, OfInput}
+use Rattle.recording_io.specs.Tapes.{ReaderRecord, OfInput}
 use Rattle.council_core.specs.declared.refusals.Refusal.TheVariants as why
 use Rattle.board_text.specs.Text.{started_of, started_after, fault_at, in_range, opened_of}
 use Rattle.board_text.specs.Output.{Fails}
@@ -23,7 +23,7 @@ unfolding started_of
 start-records lim bytes e h = rw (e, le-leb _ _ h) refl
 
 -- limits out of range
-pub fails-by_limits : (from to : Giving) (d : Stop) (lim : Limits) → in_range lim ≡ false → d ≡ stop.Input (fault_at why.BadLimit 0) → OfInput from to (λ bytes. Fails d (started_of lim bytes))
+pub fails-by_limits : (from to : ReaderRecord) (d : Stop) (lim : Limits) → in_range lim ≡ false → d ≡ stop.Input (fault_at why.BadLimit 0) → OfInput from to (λ bytes. Fails d (started_of lim bytes))
 fails-by_limits from to d lim e s = λ bytes is. rw s (start-out_of_range lim bytes e)
 
 read-fails : (bytes : List ℕ) (e : Stop) (lim : Limits) → in_range lim ≡ true
@@ -34,7 +34,7 @@ read-fails bytes e lim fits (inr (inl d)) long = rw d tt
 read-fails bytes e lim fits (inr (inr t)) long = rw t (start-too_long lim bytes fits (long t))
 
 -- the input could not be read
-pub fails-input : {A : Type 0} (from to : Giving) (r : Result A Stop) (lim : Limits) → in_range lim ≡ true
+pub fails-input : {A : Type 0} (from to : ReaderRecord) (r : Result A Stop) (lim : Limits) → in_range lim ≡ true
     → IfErr r (λ e. (e ≡ stop.OutOfMemory) ⊎ (e ≡ stop.ReadFault) ⊎ (e ≡ stop.Input (fault_at why.TooLong 0)))
     → (r ≡ Err (stop.Input (fault_at why.TooLong 0)) → OfInput from to (λ bytes. 4194304 < length bytes))
     → IfErr r (λ e. OfInput from to (λ bytes. Fails e (started_of lim bytes)))

@@ -1,23 +1,24 @@
 -- Records and lines of the three chairs' input, computed; and what definitions of writing take and refuse.
-use Rattle.std.proofs.Common.{◌≡◌, ◌+◌, ℕ, inl, inr, false, [], ◌∷◌, Some, None, Result, Ok, Err, refl, ap, arith}
+use Rattle.std.proofs.Common.{◌≡◌, ◌+◌, ℕ, inl, inr, false, true, [], ◌∷◌, Some, None, Result, Ok, Err, refl, ap, arith}
 use Rattle.std.specs.Prelude.{codes}
 use Rattle.std.specs.Fmt.{digits}
 use Rattle.council_core.specs.declared.commands.Command.TheVariants.{Open, Move}
 use Rattle.council_core.specs.Rolls.{Opening}
 use Rattle.council_core.specs.declared.refusals.Refusal.TheVariants.{BadHeader, BadLimit, BadRecord, ChairOpen, OutOfMemory, ReadFault, TooLong, WriteFault}
-use Rattle.recording_io.specs.Tapes.{Giving}
-use Rattle.board_text.specs.Inputs.{IsOfDevice, IsReadFault, NoReadInVain, ReadsWithin, RetriesAtMost}
+use Rattle.recording_io.specs.Tapes.{Calls, CallsWithin, WriterRecord}
+use Rattle.board_text.specs.Streams.{IsOfDevice, IsReadFault, RunsWithin, WritesWithin, most_reads, most_reads_by}
+use Rattle.board_text.specs.declared.stops.Stop.{Stop}
 use Rattle.board_text.specs.Output.{Fails, IsBadLimit, IsBroken, WritesRun, Starts}
 use Rattle.board_text.specs.Text.{fault_at, printed_run, stopped_run}
 use Rattle.board_text.specs.declared.bounds.Limits.{Limits}
 use Rattle.board_text.specs.declared.faults.Fault.{Fault}
 use Rattle.council_core.specs.declared.limits.TheConstants.{CHAIRS}
 use Rattle.board_text.specs.declared.input.TheConstants.{INTERRUPTIONS, READS}
-use Rattle.board_text.specs.declared.schedules.TheConstants.{MAX_STEPS}
+use Rattle.board_text.specs.declared.bounds.TheConstants.{READERS}
 use Rattle.board_text.specs.declared.stops.Stop.TheVariants as stop
 use Rattle.board_text.specs.Requests.{member_of, request_of, submission}
 use Rattle.board_text.specs.Lines.{accepted_line, refused_line, published_line, chair_line}
-use Rattle.board_text.specs.Sinks.{AsksAtMost, GoesOn, HasFailed, NoWriteInVain, Sink}
+use Rattle.board_text.specs.Sinks.{AsksAtMost, GoesOn, HasFailed, IsWrittenBy, NoWriteInVain, Sink}
 
 pub member : member_of (codes "BBB" ∷ codes "49" ∷ []) ≡ Some (66 ∷ 66 ∷ 66 ∷ [], 49)
 member = refl
@@ -56,20 +57,26 @@ pub second_chair : chair_line record {
 unfolding digits
 second_chair = refl
 
--- a sink after `interrupted` retried interruptions and `asks` writes, `vain` of which accepted no
--- byte
+-- a writer after this many writes, some of them empty and some interrupted
+abbrev writer : ℕ → ℕ → ℕ → WriterRecord
+writer made empty interrupted = record { writer = 0; at_start = None; contents = None; bytes = []; calls = record { made = made; empty = empty; interrupted = interrupted } }
+
+-- a sink after `retried` retried interruptions and `made` writes, `none` of which accepted no byte
 abbrev sink : ℕ → ℕ → ℕ → Sink
-sink interrupted asks vain = record { lender = 0; held = None; interrupted = interrupted; asks = asks; vain = vain }
+sink retried made none = record { lender = 0; start = writer 0 0 0; now = writer made none 0; held = None; retried = retried; failed = false }
 
 goes_on : GoesOn (sink 1 2 1) (sink 2 5 2)
-goes_on = (refl, omega arith)
+goes_on = (refl, refl, omega arith)
 
 -- an interruption is not forgotten, and the writer stays
 forgotten_interruption : GoesOn (sink 1 1 1) (sink 0 1 1) → ⊥
-forgotten_interruption h = absurd (omega (arith, h.1))
+forgotten_interruption h = absurd (omega (arith, h.2))
 
 another_writer : GoesOn (sink 1 1 1) (record (sink 1 1 1) { lender = 7 }) → ⊥
 another_writer h = let e = h.0 in cc e
+
+another_start : GoesOn (sink 1 1 1) (record (sink 1 1 1) { start = record (writer 0 0 0) { writer = 1 } }) → ⊥
+another_start h = let e = ap (λ (w : WriterRecord). w.writer) h.1 in cc e
 
 -- of two bytes, two writes and an interruption that was retried
 asks_thrice : AsksAtMost (sink 0 0 0) (sink 1 3 1) 2
@@ -101,71 +108,135 @@ no_failure h = absurd (omega (arith, h))
 retried_and_no_failure : HasFailed (sink 0 0 0) (sink 1 1 1) → ⊥
 retried_and_no_failure h = absurd (omega (arith, h))
 
-written_after_a_failure : NoWriteInVain {A = Unit {0}} {E = Unit {0}} (sink 0 0 0) (sink 0 2 2) (Err tt) → ⊥
-written_after_a_failure h = absurd (omega (arith, h))
+written_twice_and_failed : NoWriteInVain {A = Unit {0}} {E = Unit {0}} (sink 0 0 0) (sink 0 2 2) (Err tt) → ⊥
+written_twice_and_failed h = absurd (omega (arith, h))
 
--- a reader after this many reads that gave no byte, and of these this many interrupted ones
-abbrev reader : ℕ → ℕ → Giving
-reader vain interruptions = record { left = None; gave = []; ended = false; asks = vain; vain = vain; interruptions = interruptions }
+-- after a write that failed there is no other
+abbrev failed_sink : ℕ → Sink
+failed_sink made = record (sink 0 made 1) { failed = true }
+
+nothing_behind_a_failure : NoWriteInVain {A = Unit {0}} {E = Unit {0}} (failed_sink 1) (failed_sink 1) (Err tt)
+nothing_behind_a_failure = refl
+
+written_behind_a_failure : NoWriteInVain {A = Unit {0}} {E = Unit {0}} (failed_sink 1) (failed_sink 2) (Err tt) → ⊥
+written_behind_a_failure h = let e = ap (λ (s : Sink). s.now.calls.made) h in cc e
+
+-- two bytes of a writer and three writes of them, one interrupted and retried; and a fourth that failed
+abbrev two_written : ℕ → ℕ → ℕ → WriterRecord
+two_written made empty interrupted = record (writer made empty interrupted) { bytes = 7 ∷ 8 ∷ [] }
+
+three_writes : IsWrittenBy (writer 0 0 0) (two_written 3 0 1) 1 false
+three_writes = record { same = (refl, refl); grown = omega arith; calls = record { made = omega arith; empty = omega arith; interrupted = omega arith } }
+
+fourth_write : IsWrittenBy (writer 0 0 0) (two_written 4 0 1) 1 false → ⊥
+fourth_write h = absurd (omega (arith, h.calls.made))
+
+failed_fourth_write : IsWrittenBy (writer 0 0 0) (two_written 4 1 1) 1 true
+failed_fourth_write = record { same = (refl, refl); grown = omega arith; calls = record { made = omega arith; empty = omega arith; interrupted = omega arith } }
+
+unseen_failure : IsWrittenBy (writer 0 0 0) (two_written 3 1 0) 0 false → ⊥
+unseen_failure h = absurd (omega (arith, h.calls.empty))
+
+uncounted_interruption : IsWrittenBy (writer 0 0 0) (two_written 3 0 1) 0 false → ⊥
+uncounted_interruption h = absurd (omega (arith, h.calls.interrupted))
+
+bytes_lost : IsWrittenBy (two_written 0 0 0) (writer 0 0 0) 0 false → ⊥
+bytes_lost h = absurd (omega (arith, h.grown))
+
+-- of two bytes, as many writes as there are bytes and retries, and one more that fails, and no write after it
+all_retried : WritesWithin (writer 0 0 0) (two_written (INTERRUPTIONS + 3) 1 INTERRUPTIONS)
+all_retried = record { made = omega arith; empty = omega arith; interrupted = omega arith }
+
+a_write_more : WritesWithin (writer 0 0 0) (two_written (INTERRUPTIONS + 4) 1 INTERRUPTIONS) → ⊥
+a_write_more h = absurd (omega (arith, h.made))
+
+a_write_behind_a_failure : WritesWithin (writer 0 0 0) (two_written 4 2 0) → ⊥
+a_write_behind_a_failure h = absurd (omega (arith, h.empty))
+
+a_retry_too_many : WritesWithin (writer 0 0 0) (two_written (INTERRUPTIONS + 2) 0 (INTERRUPTIONS + 2)) → ⊥
+a_retry_too_many h = absurd (omega (arith, h.interrupted))
+
+a_write_of_nothing : WritesWithin (writer 5 0 0) (writer (INTERRUPTIONS + 7) 0 0) → ⊥
+a_write_of_nothing h = absurd (omega (arith, h.made))
+
+-- the reads of an input so far: this many, this many of them empty, and this many interrupted
+abbrev reads_made : ℕ → ℕ → ℕ → Calls
+reads_made made empty interrupted = record { made = made; empty = empty; interrupted = interrupted }
+
+abbrev ReadsTo : Result (Unit {0}) Stop → Calls → Type 0
+ReadsTo r to = CallsWithin (most_reads_by r) (reads_made 0 0 0) to
 
 -- one read found the end, or failed, after an interruption
-end_found : NoReadInVain {A = Unit {0}} (reader 0 0) (reader 2 1) (Ok tt)
-end_found = omega arith
+end_found : ReadsTo (Ok tt) (reads_made 3 1 1)
+end_found = record { made = omega arith; empty = omega arith; interrupted = omega arith }
 
-read_behind_the_end : NoReadInVain {A = Unit {0}} (reader 0 0) (reader 2 0) (Ok tt) → ⊥
-read_behind_the_end h = absurd (omega (arith, h))
+read_behind_the_end : ReadsTo (Ok tt) (reads_made 3 2 0) → ⊥
+read_behind_the_end h = absurd (omega (arith, h.empty))
 
-one_failed_read : NoReadInVain {A = Unit {0}} (reader 0 0) (reader 1 0) (Err stop.ReadFault)
-one_failed_read = omega arith
+one_failed_read : ReadsTo (Err stop.ReadFault) (reads_made 2 1 0)
+one_failed_read = record { made = omega arith; empty = omega arith; interrupted = omega arith }
 
-read_after_a_failure : NoReadInVain {A = Unit {0}} (reader 0 0) (reader 2 0) (Err stop.ReadFault) → ⊥
-read_after_a_failure h = absurd (omega (arith, h))
+read_after_a_failure : ReadsTo (Err stop.ReadFault) (reads_made 3 2 0) → ⊥
+read_after_a_failure h = absurd (omega (arith, h.empty))
 
--- where memory was refused, or the input is too long, each read gave a byte
-read_without_memory : NoReadInVain {A = Unit {0}} (reader 0 0) (reader 1 0) (Err stop.OutOfMemory) → ⊥
-read_without_memory h = absurd (omega (arith, h))
+-- where memory was refused, or the input is too long, each read gave a byte or was interrupted
+read_without_memory : ReadsTo (Err stop.OutOfMemory) (reads_made 1 1 0) → ⊥
+read_without_memory h = absurd (omega (arith, h.empty))
 
-read_for_a_failed_write : NoReadInVain {A = Unit {0}} (reader 0 0) (reader 1 0) (Err stop.WriteFault) → ⊥
-read_for_a_failed_write h = absurd (omega (arith, h))
+read_for_a_failed_write : ReadsTo (Err stop.WriteFault) (reads_made 1 1 0) → ⊥
+read_for_a_failed_write h = absurd (omega (arith, h.empty))
 
-read_behind_too_long : NoReadInVain {A = Unit {0}} (reader 0 0) (reader 1 0) (Err (stop.Input (fault_at TooLong 0))) → ⊥
-read_behind_too_long h = absurd (omega (arith, h))
+read_behind_too_long : ReadsTo (Err (stop.Input (fault_at TooLong 0))) (reads_made 1 1 0) → ⊥
+read_behind_too_long h = absurd (omega (arith, h.empty))
+
+-- after all retries the next interruption is a failed read, and there is no other
+too_many_interruptions : ReadsTo (Err stop.ReadFault) (reads_made 1001 0 (INTERRUPTIONS + 1))
+too_many_interruptions = record { made = omega arith; empty = omega arith; interrupted = omega arith }
+
+retried_once_more : ReadsTo (Err stop.ReadFault) (reads_made 1002 0 (INTERRUPTIONS + 2)) → ⊥
+retried_once_more h = absurd (omega (arith, h.interrupted))
+
+read_after_all_retries : ReadsTo (Ok tt) (reads_made 1001 0 (INTERRUPTIONS + 1)) → ⊥
+read_after_all_retries h = absurd (omega (arith, h.interrupted))
 
 -- of at most two retries the third interruption is a failed read, and there is no fourth
-retried_twice : RetriesAtMost {A = Unit {0}} IsReadFault 2 (reader 0 0) (reader 3 2) (Ok tt)
-retried_twice = omega arith
+abbrev five_reads : Calls
+five_reads = reads_made 5 1 2
 
-retried_thrice : RetriesAtMost {A = Unit {0}} IsReadFault 2 (reader 0 0) (reader 4 3) (Ok tt) → ⊥
-retried_thrice h = absurd (omega (arith, h))
+retried_twice : RunsWithin {A = Unit {0}} IsReadFault five_reads (reads_made 0 0 0) (reads_made 5 1 2) (Ok tt)
+retried_twice = record { made = omega arith; empty = omega arith; interrupted = omega arith }
 
-third_interruption : RetriesAtMost {A = Unit {0}} IsReadFault 2 (reader 0 0) (reader 3 3) (Err stop.ReadFault)
-third_interruption = inr (refl, omega arith)
+retried_thrice : RunsWithin {A = Unit {0}} IsReadFault five_reads (reads_made 0 0 0) (reads_made 4 1 3) (Ok tt) → ⊥
+retried_thrice h = absurd (omega (arith, h.interrupted))
 
-fourth_interruption : RetriesAtMost {A = Unit {0}} IsReadFault 2 (reader 0 0) (reader 4 4) (Err stop.ReadFault) → ⊥
-fourth_interruption (inl bound) = absurd (omega (arith, bound))
-fourth_interruption (inr more) = absurd (omega (arith, more.1))
+third_interruption : RunsWithin {A = Unit {0}} IsReadFault five_reads (reads_made 0 0 0) (reads_made 3 0 3) (Err stop.ReadFault)
+third_interruption = inr (refl, record { made = omega arith; empty = omega arith; interrupted = omega arith })
 
-retried_thrice_without_memory : RetriesAtMost {A = Unit {0}} IsReadFault 2 (reader 0 0) (reader 3 3) (Err stop.OutOfMemory) → ⊥
-retried_thrice_without_memory (inl bound) = absurd (omega (arith, bound))
+fourth_interruption : RunsWithin {A = Unit {0}} IsReadFault five_reads (reads_made 0 0 0) (reads_made 4 0 4) (Err stop.ReadFault) → ⊥
+fourth_interruption (inl bound) = absurd (omega (arith, bound.interrupted))
+fourth_interruption (inr more) = absurd (omega (arith, more.1.interrupted))
+
+retried_thrice_without_memory : RunsWithin {A = Unit {0}} IsReadFault five_reads (reads_made 0 0 0) (reads_made 3 0 3) (Err stop.OutOfMemory) → ⊥
+retried_thrice_without_memory (inl bound) = absurd (omega (arith, bound.interrupted))
 retried_thrice_without_memory (inr more) = let e = more.0 in cc e
 
-retried_thrice_for_a_failed_write : RetriesAtMost {A = Unit {0}} IsReadFault 2 (reader 0 0) (reader 3 3) (Err stop.WriteFault) → ⊥
-retried_thrice_for_a_failed_write (inl bound) = absurd (omega (arith, bound))
+retried_thrice_for_a_failed_write : RunsWithin {A = Unit {0}} IsReadFault five_reads (reads_made 0 0 0) (reads_made 3 0 3) (Err stop.WriteFault) → ⊥
+retried_thrice_for_a_failed_write (inl bound) = absurd (omega (arith, bound.interrupted))
 retried_thrice_for_a_failed_write (inr more) = let e = more.0 in cc e
 
-retried_thrice_and_too_long : RetriesAtMost {A = Unit {0}} IsReadFault 2 (reader 0 0) (reader 3 3) (Err (stop.Input (fault_at TooLong 0))) → ⊥
-retried_thrice_and_too_long (inl bound) = absurd (omega (arith, bound))
+retried_thrice_and_too_long : RunsWithin {A = Unit {0}} IsReadFault five_reads (reads_made 0 0 0) (reads_made 3 0 3) (Err (stop.Input (fault_at TooLong 0))) → ⊥
+retried_thrice_and_too_long (inl bound) = absurd (omega (arith, bound.interrupted))
 retried_thrice_and_too_long (inr more) = let e = more.0 in cc e
 
 -- a run that reads once too often, once more behind the end, or again after one interruption too many
-run_reads_too_often : ReadsWithin {A = Unit {0}} IsReadFault (reader 0 0) (record (reader 0 0) { asks = READS + 1 }) (Ok tt) → ⊥
-run_reads_too_often h = absurd (omega (arith, h.asks))
+run_reads_too_often : RunsWithin {A = Unit {0}} IsReadFault most_reads (reads_made 0 0 0) (reads_made (READS + 1) 0 0) (Ok tt) → ⊥
+run_reads_too_often h = absurd (omega (arith, h.made))
 
-run_reads_behind_the_end : ReadsWithin {A = Unit {0}} IsReadFault (reader 0 0) (reader 2 0) (Ok tt) → ⊥
-run_reads_behind_the_end h = absurd (omega (arith, h.vain))
+run_reads_behind_the_end : RunsWithin {A = Unit {0}} IsReadFault most_reads (reads_made 0 0 0) (reads_made 2 2 0) (Ok tt) → ⊥
+run_reads_behind_the_end h = absurd (omega (arith, h.empty))
 
-run_retries_too_often : ReadsWithin {A = Unit {0}} IsReadFault (reader 0 0) (reader 0 (INTERRUPTIONS + 1)) (Ok tt) → ⊥
-run_retries_too_often h = absurd (omega (arith, h.retried))
+run_retries_too_often : RunsWithin {A = Unit {0}} IsReadFault most_reads (reads_made 0 0 0) (reads_made 1001 0 (INTERRUPTIONS + 1)) (Ok tt) → ⊥
+run_retries_too_often h = absurd (omega (arith, h.interrupted))
 
 -- the number of a fault's refusal, and of its record
 code : {f g : Fault} → f ≡ g → f.code ≡ g.code
@@ -181,17 +252,17 @@ reported : {f g : Fault} → fails f ≡ fails g → f ≡ g
 reported e = cc e
 
 -- the same of whole runs
-run_retried_thrice : RetriesAtMost {A = Unit {0}} IsOfDevice 2 (reader 0 0) (reader 4 3) (Ok tt) → ⊥
-run_retried_thrice h = absurd (omega (arith, h))
+run_retried_thrice : RunsWithin {A = Unit {0}} IsOfDevice five_reads (reads_made 0 0 0) (reads_made 4 1 3) (Ok tt) → ⊥
+run_retried_thrice h = absurd (omega (arith, h.interrupted))
 
-bad_record_behind_three : RetriesAtMost {A = Unit {0}} IsOfDevice 2 (reader 0 0) (reader 4 3) (Err (fault_at BadRecord 5)) → ⊥
-bad_record_behind_three (inl bound) = absurd (omega (arith, bound))
+bad_record_behind_three : RunsWithin {A = Unit {0}} IsOfDevice five_reads (reads_made 0 0 0) (reads_made 4 1 3) (Err (fault_at BadRecord 5)) → ⊥
+bad_record_behind_three (inl bound) = absurd (omega (arith, bound.interrupted))
 bad_record_behind_three (inr (inl e, more)) = absurd (omega (arith, code e))
 bad_record_behind_three (inr (inr e, more)) = absurd (omega (arith, code e))
 
-failed_run_behind_four : RetriesAtMost {A = Unit {0}} IsOfDevice 2 (reader 0 0) (reader 4 4) (Err (fault_at ReadFault 0)) → ⊥
-failed_run_behind_four (inl bound) = absurd (omega (arith, bound))
-failed_run_behind_four (inr more) = absurd (omega (arith, more.1))
+failed_run_behind_four : RunsWithin {A = Unit {0}} IsOfDevice five_reads (reads_made 0 0 0) (reads_made 4 0 4) (Err (fault_at ReadFault 0)) → ⊥
+failed_run_behind_four (inl bound) = absurd (omega (arith, bound.interrupted))
+failed_run_behind_four (inr more) = absurd (omega (arith, more.1.interrupted))
 
 -- a fault of a record is no device's, and a device's has no record
 record_of_a_device : IsOfDevice (fault_at ReadFault 5) → ⊥
@@ -247,15 +318,15 @@ stopped_by_another h = let e : fault_at BadRecord 5 ≡ fault_at BadRecord 6 = l
 line_left_out : WritesRun {A = Unit {0}} (Some []) (Some []) (Ok tt) (printed_run (codes "began" ∷ [])) → ⊥
 line_left_out h = let e = h.1 in cc e
 
--- the limits of chairs, reads, retries and steps by number, so that a changed constant is rejected
+-- the limits of chairs, reads, retries and readers by number, so that a changed constant is rejected
 chairs : CHAIRS ≡ 32
 chairs = refl
 
 retries : INTERRUPTIONS ≡ 1000
 retries = refl
 
-steps : MAX_STEPS ≡ 1000
-steps = refl
+most_readers : READERS ≡ 4
+most_readers = refl
 
 reads : READS ≡ 4195305
 reads = refl

@@ -9,13 +9,11 @@ use Rattle.majority_rule.specs.declared.majorities.Majority.{Majority}
 use Rattle.board_text.specs.Lines.{reading_lines}
 use Rattle.board_text.specs.Numbers.{number_of_digits}
 use Rattle.board_text.specs.Requests.{Row, member_of, request_of}
-use Rattle.board_text.specs.Schedules.{act_of}
 use Rattle.board_text.specs.Text.{opened_of}
 use Rattle.majority_rule.specs.Majorities.{majority_of, word_of_majority}
-use Rattle.board_text.specs.Writing.{Field, IsAct, IsMember, IsRequest, act_row, bytes_of, member_row, request_row}
+use Rattle.board_text.specs.Writing.{Field, IsMember, IsRequest, bytes_of, member_row, request_row}
 use Rattle.board_text.specs.Writing.{written_rows, row_text, rows_text}
 use Rattle.board_text.specs.declared.requests.Request.{Request}
-use Rattle.board_text.specs.declared.schedules.Act.{Act}
 
 -- a number printed and read back is itself
 abbrev pub NumberLaw : Type 0
@@ -42,10 +40,6 @@ ReadsBack read row a = (fields : List Field) → bytes_of fields ≡ row
 -- each request of a script, written and read back, is itself
 abbrev pub RequestLaw : Type 0
 RequestLaw = (request : Request) → IsRequest request → ReadsBack request_of (request_row request) request
-
--- each act of a schedule
-abbrev pub ActLaw : Type 0
-ActLaw = (act : Act) → IsAct act → ReadsBack act_of (act_row act) act
 
 -- each member
 abbrev pub MemberLaw : Type 0

@@ -4,11 +4,11 @@ pub mod Words
 pub mod Requests
 pub mod Lines
 pub mod Text
-pub mod Schedules
 pub mod Script
 pub mod Sinks
 pub mod Output
 pub mod Inputs
+pub mod Streams
 pub mod Scripts
 pub mod Writing
 pub mod Laws

@@ -5,9 +5,6 @@ use Rattle.council_core.specs.Refusals.{code_of, name_of, refusal_of}
 use Rattle.council_core.specs.Sequential.{Reply, answered, reading}
 use Rattle.council_core.specs.declared.calls.Answer.TheVariants as answer
 use Rattle.council_core.specs.declared.refusals.Refusal.{Refusal}
-use Rattle.council_core.specs.Sheets.{cast_of, front_of, total_of}
-use Rattle.two_copy_steps.specs.declared.events.Note.{Note}
-use Rattle.two_copy_steps.specs.declared.events.Note.TheVariants as note
 use Rattle.majority_rule.specs.declared.majorities.Majority.{Majority}
 use Rattle.power_index.specs.Indices.{fraction, indices_of}
 use Rattle.power_index.specs.declared.indices.Fraction.{Fraction}
@@ -52,27 +49,6 @@ chair_line c =
     line_of (codes "chair")
     (decimal c.chair ∷ decimal c.weight ∷ decimal c.swings ∷ fraction c.banzhaf ∷ fraction_if_any c.share
     ∷ fraction_if_any c.prevent ∷ fraction c.initiate ∷ [])
-
--- names the reader that blocked a publication
-abbrev pub busy_line : ℕ → LineBytes
-busy_line reader = line_of (codes "busy") (decimal reader ∷ [])
-
--- one reading in `trace`: the reader, and the front, cast and total of the sheet that it read
-abbrev pub sheet_line : ℕ → List ℕ → LineBytes
-sheet_line reader words =
-    line_of (codes "sheet")
-    (decimal reader ∷ decimal (front_of words) ∷ decimal (cast_of words) ∷ decimal (total_of words) ∷ [])
-
--- the lines printed for an output of the machine
-abbrev pub note_lines : Note → List LineBytes
-note_lines (note.Accepted n) = accepted_line n ∷ []
-note_lines (note.Refused why) = refused_line why ∷ []
-note_lines note.Began = codes "began" ∷ []
-note_lines note.Moved = []
-note_lines (note.Published n) = published_line n ∷ []
-note_lines (note.Busy reader) = busy_line reader ∷ []
-note_lines (note.Read reader words) = sheet_line reader words ∷ []
-note_lines note.Skipped = codes "skipped" ∷ []
 
 -- the lines of a reading: the indices of the sheet, then one line for each open chair by number
 abbrev pub reading_lines : ℕ → Majority → List ℕ → List LineBytes

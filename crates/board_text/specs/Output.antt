@@ -1,12 +1,11 @@
 -- The text that a run has written, by its result.
-use Rattle.std.specs.Prelude.{◌≡◌, ◌≤◌, ℕ, length, take, ◌⊎◌, List, Option}
+use Rattle.std.specs.Prelude.{◌≡◌, ◌≤◌, ℕ, length, take, ◌++◌, ◌⊎◌, List, Option}
 use Rattle.std.specs.Prelude.{Some, None, Result, Ok, Err}
 use Rattle.std.specs.Io.KnownBytes.{Appends}
 use Rattle.council_core.specs.Ledgers.{Ledger, start_verdict}
 use Rattle.council_core.specs.Rolls.{Opening}
 use Rattle.council_core.specs.declared.refusals.Refusal.{Refusal}
 use Rattle.council_core.specs.declared.refusals.Refusal.TheVariants as why
-use Rattle.two_copy_steps.specs.Lawful.{IsPrefix}
 use Rattle.board_text.specs.declared.bounds.Limits.{Limits}
 use Rattle.board_text.specs.Lines.{LineBytes, fault_line}
 use Rattle.board_text.specs.Text.{Run, fault_at, line_text, ledger_at_start, text_of}
@@ -14,9 +13,13 @@ use Rattle.board_text.specs.declared.faults.Fault.{Fault}
 use Rattle.board_text.specs.declared.stops.Stop.{Stop}
 use Rattle.board_text.specs.declared.stops.Stop.TheVariants as stop
 
+-- the first list is a prefix of the second
+abbrev pub IsPrefixOf : {A : Type 0} → List A → List A → Type 0
+IsPrefixOf {A} list longer = (rest : List A) × (longer ≡ list ++ rest)
+
 -- a prefix of the text was appended
 abbrev pub AppendsFront : Option (List ℕ) → Option (List ℕ) → List ℕ → Type 0
-AppendsFront old new text = (front : List ℕ) × IsPrefix front text × Appends old new front
+AppendsFront old new text = (front : List ℕ) × IsPrefixOf front text × Appends old new front
 
 -- `Ok`: the whole text was appended. WriteFault, the only error: a prefix of it was appended
 abbrev pub Writes : Option (List ℕ) → Option (List ℕ) → Result (Unit {0}) Stop → List ℕ → Type 0
@@ -31,7 +34,7 @@ WritesSome old new (Err e) text = (e ≡ stop.WriteFault) × AppendsFront old ne
 
 -- a prefix of these lines was appended
 abbrev pub AppendsLines : Option (List ℕ) → Option (List ℕ) → List LineBytes → Type 0
-AppendsLines old new lines = (front : List LineBytes) × IsPrefix front lines × Appends old new (text_of front)
+AppendsLines old new lines = (front : List LineBytes) × IsPrefixOf front lines × Appends old new (text_of front)
 
 -- a run that stopped has written this, before the line of its fault: without memory or after a failed read a prefix of
 -- its lines, each whole; after a failed write a prefix of their text; at a fault of the input, which is the run's own,
@@ -60,9 +63,9 @@ Fails (stop.Input f) spec = spec ≡ Err f
 abbrev pub ReadTo : {T A : Type 0} → Result T Stop → List A → List A → Type 0
 ReadTo (Ok _) got all = got ≡ all
 ReadTo (Err (stop.Input f)) got all = got ≡ all
-ReadTo (Err stop.OutOfMemory) got all = IsPrefix got all
-ReadTo (Err stop.ReadFault) got all = IsPrefix got all
-ReadTo (Err stop.WriteFault) got all = IsPrefix got all
+ReadTo (Err stop.OutOfMemory) got all = IsPrefixOf got all
+ReadTo (Err stop.ReadFault) got all = IsPrefixOf got all
+ReadTo (Err stop.WriteFault) got all = IsPrefixOf got all
 
 -- the result of starting a register over these members: the definition's, or out of memory
 abbrev pub Starts : Limits → Opening → Result Ledger Stop → Type 0
@@ -77,11 +80,6 @@ Starts lim members (Err (stop.Input f)) = (e : Refusal) × (start_verdict member
 abbrev pub stop_of : Refusal → Stop
 stop_of why.OutOfMemory = stop.OutOfMemory
 stop_of why = stop.Input (fault_at why 0)
-
--- the stop of a record that is refused: a fault at the record's number
-abbrev pub at_record : {A : Type 0} → ℕ → Result A Refusal → Result A Stop
-at_record number (Ok a) = Ok a
-at_record number (Err why) = Err (stop.Input (fault_at why number))
 
 -- the fault whose line is to be written; none after a failed write
 abbrev pub fault_of : Stop → Option Fault

@@ -12,7 +12,7 @@ use Rattle.council_core.specs.declared.limits.TheConstants.{MAX_COMMANDS, MAX_ME
 use Rattle.council_core.specs.declared.refusals.Refusal.{Refusal}
 use Rattle.council_core.specs.declared.refusals.Refusal.TheVariants.{BadHeader, BadLimit, BadReader, BadRecord}
 use Rattle.council_core.specs.declared.refusals.Refusal.TheVariants.{NoScript, TooLong, TooManyMembers}
-use Rattle.two_copy_steps.specs.declared.table.TheConstants.{READERS}
+use Rattle.board_text.specs.declared.bounds.TheConstants.{READERS}
 use Rattle.board_text.specs.Lines.{LineBytes, fault_line}
 use Rattle.board_text.specs.Requests.{Row, is_header, is_mark, member_of, request_of}
 use Rattle.board_text.specs.declared.bounds.Limits.{Limits}

@@ -12,9 +12,6 @@ use Rattle.board_text.specs.Requests.{Row}
 use Rattle.majority_rule.specs.Majorities.{word_of_majority}
 use Rattle.board_text.specs.declared.requests.Request.{Request}
 use Rattle.board_text.specs.declared.requests.Request.TheVariants as ask
-use Rattle.board_text.specs.declared.schedules.Act.{Act}
-use Rattle.board_text.specs.declared.schedules.Act.TheVariants as act
-use Rattle.board_text.specs.declared.schedules.TheConstants.{MAX_STEPS}
 
 -- the field for where a member is moved: the number of a chair, or `none`
 abbrev pub target_field : Option ℕ → List ℕ
@@ -37,13 +34,6 @@ abbrev pub request_row : Request → Row
 request_row (ask.Order (order.Submit command)) = command_row command
 request_row (ask.Order order.Publish) = codes "publish" ∷ []
 request_row (ask.Read reader m) = codes "read" ∷ decimal reader ∷ word_of_majority m ∷ []
-
--- the fields of an act in a schedule
-abbrev pub act_row : Act → Row
-act_row (act.Submit command) = codes "submit" ∷ command_row command
-act_row act.Publish = codes "publish" ∷ []
-act_row (act.Writer count) = codes "writer" ∷ decimal count ∷ []
-act_row (act.Reader number count) = codes "reader" ∷ decimal number ∷ decimal count ∷ []
 
 -- the fields of a member
 abbrev pub member_row : List ℕ × ℕ → Row
@@ -81,17 +71,6 @@ abbrev pub IsRequest : Request → Type 0
 IsRequest (ask.Order (order.Submit command)) = IsCommand command
 IsRequest (ask.Order order.Publish) = Unit {0}
 IsRequest (ask.Read reader m) = reader < 2 ^ 64
-
--- a number of steps that one record may ask for
-abbrev pub IsCount : ℕ → Type 0
-IsCount count = (1 ≤ count) × (count ≤ MAX_STEPS)
-
--- an act whose command is in range, whose number of steps is, and whose reader number fits 64 bits
-abbrev pub IsAct : Act → Type 0
-IsAct (act.Submit command) = IsCommand command
-IsAct act.Publish = Unit {0}
-IsAct (act.Writer count) = IsCount count
-IsAct (act.Reader number count) = (number < 2 ^ 64) × IsCount count
 
 -- a member whose code and votes are in range
 abbrev pub IsMember : List ℕ × ℕ → Type 0

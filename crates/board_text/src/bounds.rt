@@ -1,9 +1,11 @@
 //! The limits of a run.
-ghost use Rattle.std.specs.Prelude.{◌≡◌};
+ghost use Rattle.std.specs.Prelude.{◌≡◌, Some, None, if◌then◌else◌};
 ghost use Rattle.board_text.specs.Text.{in_range, is_reader};
 
 use council_core::MAX_COMMANDS;
-use two_copy_steps::READERS;
+
+/// The most readers of a run: as many as the two-copy machine has at most.
+pub const READERS: usize = 4;
 
 /// The limits of a run, chosen by its caller. Limits out of range are the fault `BadLimit` of the
 /// run.
@@ -36,10 +38,13 @@ impl Limits {
         1 <= readers && readers <= READERS && 1 <= self.journal && self.journal <= MAX_COMMANDS
     }
 
-    // Whether the reader number is in range.
-    pub(crate) fn has_reader(self, number: u64) -> bool
-        ensures known { result ≡ is_reader self number }
+    /// The reader of this number, counted from 1; `None` if the limits have none of this number.
+    pub fn reader(self, number: u64) -> Option<u8>
+        ensures known { result ≡ (if is_reader self number then Some number else None) }
     {
-        1 <= number && number <= u64::from(self.readers)
+        if 1 <= number && number <= u64::from(self.readers) {
+            return Some(number as u8);
+        }
+        None
     }
 }

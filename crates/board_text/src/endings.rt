@@ -7,11 +7,11 @@ use crate::lines::line_of_fault;
 use crate::output::Output;
 use crate::stops::Stop;
 use council_core::Refusal;
-use std::io::Write;
+use recording_io::Recorder;
 
 // Writes the line of a fault and returns that fault, or `WriteFault` at 0 if the line could not be
 // written.
-fn end_with<W: Write>(out: &mut Output<'_, W>, fault: Fault) -> Fault
+fn end_with<W: Recorder>(out: &mut Output<'_, W>, fault: Fault) -> Fault
     ensures ends { Ends out.old.held out.new.held fault result }
     ensures continues { GoesOn out.old out.new }
 {
@@ -28,7 +28,7 @@ fn end_with<W: Write>(out: &mut Output<'_, W>, fault: Fault) -> Fault
 ///
 /// The fault of the stop, or `WriteFault` at 0 if a write had failed or the line could not be
 /// written.
-pub fn end_run<T: Drop, W: Write>(
+pub fn end_run<T: Drop, W: Recorder>(
     out: &mut Output<'_, W>,
     carried: Result<T, Stop>,
 ) -> Result<T, Fault>

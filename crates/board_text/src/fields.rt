@@ -6,18 +6,23 @@ ghost use Rattle.board_text.specs.Fields.{AreFields};
 
 use csv::ByteRecord;
 
-// The fields of a record that has one to four of them; `Other` is any other record.
-#[derive(Clone, Copy)]
-pub(crate) enum Fields<'a> {
+/// The fields of a record that has one to four of them.
+#[derive(Clone, Copy, Debug)]
+pub enum Fields<'a> {
+    /// One field.
     One(&'a [u8]),
+    /// Two fields, in order.
     Two(&'a [u8], &'a [u8]),
+    /// Three fields, in order.
     Three(&'a [u8], &'a [u8], &'a [u8]),
+    /// Four fields, in order.
     Four(&'a [u8], &'a [u8], &'a [u8], &'a [u8]),
+    /// Any other record: no field, or more than four.
     Other,
 }
 
-// The fields of a record, by number.
-pub(crate) fn fields_in(row: &ByteRecord) -> Fields<'_>
+/// The fields of a record.
+pub fn fields_in(row: &ByteRecord) -> Fields<'_>
     ensures { AreFields result (fields_of row.now) }
 {
     let Some(first) = row.get(0) else {
@@ -38,8 +43,8 @@ pub(crate) fn fields_in(row: &ByteRecord) -> Fields<'_>
     Fields::Four(first, second, third, fourth)
 }
 
-// Whether a field is this word.
-pub(crate) fn is_word(field: &[u8], word: &str) -> bool
+/// Whether a field is this word.
+pub fn is_word(field: &[u8], word: &str) -> bool
     ensures { result ≡ bytes_eq field.now word.now }
 {
     field == word.as_bytes()

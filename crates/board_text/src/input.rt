@@ -1,9 +1,9 @@
 //! Reads the whole input before any record is interpreted.
 ghost use Rattle.std.specs.Prelude.{◌≡◌, ◌≤◌, ◌<◌, ◌+◌, length, IfOk, IfErr, ◌⊎◌, IsErrOf, IsOkUnless};
-ghost use Rattle.recording_io.specs.Tapes.{OfInput};
+ghost use Rattle.recording_io.specs.Tapes.{CallsWithin, OfInput};
 ghost use Rattle.council_core.specs.declared.refusals.Refusal.TheVariants as why;
-ghost use Rattle.board_text.specs.Inputs.{InterruptedAtMost, IsReadFault, NoReadInVain, Reads, ReadsWithin};
-ghost use Rattle.board_text.specs.Inputs.{WastesAtMost};
+ghost use Rattle.board_text.specs.Inputs.{Reads};
+ghost use Rattle.board_text.specs.Streams.{most_reads_by};
 ghost use Rattle.board_text.specs.Text.{fault_at};
 ghost use Rattle.board_text.specs.declared.stops.Stop.TheVariants as stop;
 
@@ -34,11 +34,9 @@ fn read_some<R: Read + Drop>(
     interrupted: &mut u32,
 ) -> Result<Option<usize>, Stop>
     requires bound { interrupted.old ≤ INTERRUPTIONS }
-    ensures once { input.new.asks ≡ input.old.asks + 1 }
+    ensures once { CallsWithin (record { made = 1; empty = 1; interrupted = 1 }) input.old.calls input.new.calls }
     ensures read { IfOk result (Reads input.old input.new interrupted.old interrupted.new piece.new) }
     ensures bound { interrupted.new ≤ INTERRUPTIONS }
-    ensures vain { WastesAtMost 1 input.old input.new }
-    ensures interrupted { InterruptedAtMost 1 input.old input.new }
     ensures only { IsOkUnless result stop.ReadFault }
 {
     match input.read(piece) {
@@ -59,8 +57,7 @@ pub(crate) fn read_input<R: Read + Drop>(
     ensures whole { IfOk result (λ text. OfInput input.old input.new (λ bytes. text.items ≡ bytes)) }
     ensures causes { IfErr result
         (λ e. (e ≡ Stop.OutOfMemory) ⊎ (e ≡ Stop.ReadFault) ⊎ (e ≡ Stop.Input (fault_at why.TooLong 0))) }
-    ensures reads { ReadsWithin IsReadFault input.old input.new result }
-    ensures vain { NoReadInVain input.old input.new result }
+    ensures reads { CallsWithin (most_reads_by result) input.old.calls input.new.calls }
     ensures fits { IfOk result (λ text. length text.items ≤ INPUT_LIMIT) }
     ensures too_long { IsErrOf result (Stop.Input (fault_at why.TooLong 0))
         → OfInput input.old input.new (λ bytes. INPUT_LIMIT < length bytes) }

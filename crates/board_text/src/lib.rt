@@ -15,26 +15,25 @@ mod numbers;
 mod opening;
 mod output;
 mod requests;
-mod schedules;
 mod script;
 mod starting;
 mod stops;
 
-pub use bounds::Limits;
+pub use bounds::{Limits, READERS};
 pub use endings::end_run;
 pub use faults::Fault;
+pub use fields::{Fields, fields_in, is_word};
 pub use input::{INPUT_LIMIT, INTERRUPTIONS, READS};
 pub use interpreters::{Interpreter, interpret};
 pub use laws::{input_law, majority_law, member_law, number_law, reading_law, request_law};
 pub use line::{LINE, Line};
 pub use lines::{
-    line_of_answer, line_of_audit, line_of_chair, line_of_count, line_of_fault, line_of_note,
-    line_of_reading,
+    line_of_answer, line_of_audit, line_of_chair, line_of_count, line_of_fault, line_of_reading,
 };
+pub use numbers::number_of_field;
 pub use opening::read_opening;
 pub use output::{Output, say};
-pub use requests::{Request, request_in};
-pub use schedules::{Act, MAX_STEPS, act_in};
+pub use requests::{Request, command_of_one, command_of_two, request_in};
 pub use script::Script;
 pub use starting::{ScriptStart, read_within, start_script};
 pub use stops::Stop;

@@ -1,15 +1,13 @@
 //! Formats the lines of the output.
-ghost use Rattle.std.specs.Prelude.{◌≡◌, ◌≤◌, ◌+◌, ◌∷◌, [], length, IfSome, IfNone};
+ghost use Rattle.std.specs.Prelude.{◌≡◌, ◌≤◌, ◌+◌, length};
 ghost use Rattle.council_core.specs.Sequential.{answered};
-ghost use Rattle.board_text.specs.Lines.{accepted_line, busy_line, chair_line, fault_line, published_line};
-ghost use Rattle.board_text.specs.Lines.{reading_line, refused_line, reply_line, note_lines, sheet_line};
-ghost use Rattle.board_text.specs.Lines.{audit_line, reader_line};
+ghost use Rattle.board_text.specs.Lines.{accepted_line, audit_line, chair_line, fault_line, published_line};
+ghost use Rattle.board_text.specs.Lines.{reader_line, reading_line, refused_line, reply_line};
 
 use crate::faults::Fault;
 use crate::line::{LINE, Line};
-use council_core::{Answer, Refusal, Sheet};
+use council_core::{Answer, Refusal};
 use power_index::{ChairPower, Indices};
-use two_copy_steps::Note;
 
 // The line of an accepted command: `accepted` commands have been accepted so far.
 fn accepted_line(accepted: u32) -> Line
@@ -54,56 +52,14 @@ pub fn line_of_answer(answer: Answer) -> Line
     }
 }
 
-/// The line of an output of the machine, without its line end; `None` for `Note::Moved`, which
-/// prints nothing.
-pub fn line_of_note(note: Note) -> Option<Line>
-    ensures text { IfSome result (λ line. note_lines note ≡ line ∷ []) }
-    ensures none { IfNone result (note_lines note ≡ []) }
-    ensures fits { IfSome result (λ line. length line + 1 ≤ LINE) }
-{
-    match note {
-        Note::Accepted(accepted) => Some(accepted_line(accepted)),
-        Note::Refused(why) => Some(refused_line(why)),
-        Note::Began => Some(Line::new("began")),
-        Note::Moved => None,
-        Note::Published(front) => Some(published_line(front)),
-        Note::Busy(reader) => Some(busy_line(reader)),
-        Note::Read(reader, sheet) => Some(sheet_line(reader, &sheet)),
-        Note::Skipped => Some(Line::new("skipped")),
-    }
-}
-
-// The line of a publication that a reader blocked.
-fn busy_line(reader: u8) -> Line
-    ensures text { result ≡ busy_line reader }
-    ensures fits { length result + 1 ≤ LINE }
-{
-    let mut line = Line::new("busy");
-    line.number(u64::from(reader));
-    line
-}
-
-// The line of a reading in `trace`: the reader, and the front, cast and total of the sheet.
-fn sheet_line(reader: u8, sheet: &Sheet) -> Line
-    ensures text { result ≡ sheet_line reader sheet.now }
-    ensures fits { length result + 1 ≤ LINE }
-{
-    let mut line = Line::new("sheet");
-    line.number(u64::from(reader));
-    line.number(u64::from(sheet.front()));
-    line.number(sheet.cast());
-    line.number(sheet.total());
-    line
-}
-
 /// The first line of a reading: the reader's number and the indices of the whole board, without its
 /// line end.
-pub fn line_of_reading(reader: u64, indices: &Indices) -> Line
+pub fn line_of_reading(reader: u8, indices: &Indices) -> Line
     ensures text { result ≡ reading_line reader indices.now }
     ensures fits { length result + 1 ≤ LINE }
 {
     let mut line = Line::new("reading");
-    line.number(reader);
+    line.number(u64::from(reader));
     line.number(u64::from(indices.front));
     line.word(indices.majority.word());
     line.number(u64::from(indices.chairs));

@@ -2,8 +2,8 @@
 ghost use Rattle.std.specs.Prelude.{◌≡◌, ◌+◌, ◌*◌, nat_lt, if◌then◌else◌};
 ghost use Rattle.board_text.specs.Numbers.{number_of_digits};
 
-// The number of one to twenty decimal digits, if it is below 2^64.
-pub(crate) fn number_of_field(field: &[u8]) -> Option<u64>
+/// The number of one to twenty decimal digits, if it is below 2^64; `None` of any other field.
+pub fn number_of_field(field: &[u8]) -> Option<u64>
     ensures { result ≡ number_of_digits field.now }
 {
     if field.is_empty() || field.len() > 20 {

@@ -1,92 +1,123 @@
 //! Writes whole texts, with a limited number of retries.
-ghost use Rattle.std.specs.Prelude.{◌≡◌, ◌⊎◌, ◌≤◌, ◌+◌, length, IfOk};
+ghost use Rattle.std.specs.Prelude.{◌≡◌, ◌⊎◌, ◌≤◌, ◌+◌, Some, false, true, length, IfOk, IfErr, MatchResult};
 ghost use Rattle.std.specs.Io.KnownBytes.{Appends};
+ghost use Rattle.recording_io.specs.Tapes.{IsSameWriter};
 ghost use Rattle.board_text.specs.Output.{AppendsFront, Writes, WritesSome};
-ghost use Rattle.board_text.specs.Sinks.{AsksAtMost, GoesOn, HasFailed, NoWriteInVain};
+ghost use Rattle.board_text.specs.Sinks.{AsksAtMost, GoesOn, NoWriteInVain};
+ghost use Rattle.board_text.specs.Streams.{WritesWithin};
 ghost use Rattle.board_text.specs.Text.{line_text};
 
 use crate::input::INTERRUPTIONS;
 use crate::line::{LINE, Line};
 use crate::stops::Stop;
-use recording_io::RecordingWriter;
-use std::io::{ErrorKind, Write};
+use recording_io::Recorder;
+use std::fmt;
+use std::fmt::{Debug, Formatter};
+use std::io::ErrorKind;
 use std::marker::Model;
+use std::snapshot::Snapshot;
 
 /// A writer that retries interrupted writes. At most `INTERRUPTIONS` interrupted writes are retried
-/// in one `Output`.
-#[derive(Debug, Drop)]
-pub struct Output<'a, W: Write> {
-    out: RecordingWriter<'a, W>,
+/// in one `Output`, and after a write that failed it makes no other.
+#[derive(Drop)]
+pub struct Output<'a, W: Recorder> {
+    out: &'a mut W,
+    start: Snapshot<W>,
     interrupted: u32,
+    failed: bool,
 }
 
-impl<'a, W: Write> Model for Output<'a, W> {
-    ghost use Rattle.std.specs.Prelude.{◌≤◌};
-    ghost use Rattle.board_text.specs.Sinks.{Sink};
+impl<'a, W: Recorder> Model for Output<'a, W> {
+    ghost use Rattle.std.specs.Prelude.{◌≤◌, Some};
+    ghost use Rattle.board_text.specs.Sinks.{IsWrittenBy, Sink};
     ghost use Rattle.board_text.specs.declared.input.TheConstants.{INTERRUPTIONS};
 
     ghost Value = { Sink };
 
     ghost view = { λ o. record {
-      lender = o.out.lender;
-      held = o.out.held;
-      interrupted = o.interrupted;
-      asks = o.out.asks;
-      vain = o.out.vain;
+      lender = o.out.ghost_name;
+      start = W.recorded o.start.value;
+      now = W.recorded o.out.now;
+      held = Some (W.recorded o.out.now).bytes;
+      retried = o.interrupted;
+      failed = o.failed;
     } };
 
-    ghost invariant = { λ o. (o.interrupted ≤ INTERRUPTIONS) × (o.interrupted ≤ o.out.interruptions) };
+    ghost invariant = { λ o. (o.interrupted ≤ INTERRUPTIONS)
+        × IsWrittenBy (W.recorded o.start.value) (W.recorded o.out.now) o.interrupted o.failed };
 }
 
-impl<'a, W: Write> Output<'a, W> {
+impl<W: Recorder> Debug for Output<'_, W> {
+    fn fmt<F: fmt::Write>(&self, f: &mut Formatter<F>) -> fmt::Result {
+        f.debug_struct("Output").finish_non_exhaustive()
+    }
+}
+
+impl<'a, W: Recorder> Output<'a, W> {
     /// An output over `out`, with no retries used.
     pub fn new(out: &'a mut W) -> Output<'a, W>
         ensures lender { result.lender ≡ out.entry.ghost_name }
-        ensures held { result.held ≡ W.contents out.entry.now }
+        ensures start { result.start ≡ W.recorded out.entry.now }
+        ensures held { result.held ≡ Some (W.recorded out.entry.now).bytes }
     {
+        let start = Snapshot::of(&*out);
         Output {
-            out: RecordingWriter::new(out),
+            out,
+            start,
             interrupted: 0,
+            failed: false,
         }
     }
 
     /// Returns the borrowed writer. Writes nothing.
     pub fn into_inner(self) -> &'a mut W
         ensures lender { result.ghost_name ≡ self.entry.lender }
-        ensures held { W.contents result.now ≡ self.entry.held }
+        ensures held { Some (W.recorded result.now).bytes ≡ self.entry.held }
+        ensures same { IsSameWriter self.entry.start (W.recorded result.now) }
+        ensures writes { WritesWithin self.entry.start (W.recorded result.now) }
     {
-        self.out.into_inner()
+        let Output { out, .. } = self;
+        out
     }
 
     // One write: the number of bytes of the text that the writer accepted, or 0 if the write was
     // interrupted.
     fn write_some(&mut self, text: &[u8]) -> Result<usize, Stop>
-        ensures once { self.new.asks ≡ self.old.asks + 1 }
+        requires live { self.old.failed ≡ false }
+        ensures once { self.new.now.calls.made ≡ self.old.now.calls.made + 1 }
         ensures vain { NoWriteInVain self.old self.new result }
         ensures taken { WritesSome self.old.held self.new.held result text.now }
-        ensures turn { IfOk result (λ n. self.old.interrupted + 1 ≤ n + self.new.interrupted) }
-        ensures bound { self.new.interrupted ≤ INTERRUPTIONS }
+        ensures turn { IfOk result (λ n. self.old.retried + 1 ≤ n + self.new.retried) }
+        ensures bound { self.new.retried ≤ INTERRUPTIONS }
+        ensures live { MatchResult result (λ _. self.new.failed ≡ false) (λ _. self.new.failed ≡ true) }
         ensures continues { GoesOn self.old self.new }
     {
-        match self.out.write(text) {
+        match self.out.write_once(text) {
             Ok(n) if n > 0 => return Ok(n),
             Err(e) if e.kind() == ErrorKind::Interrupted && self.interrupted < INTERRUPTIONS => {
                 self.interrupted += 1;
                 return Ok(0);
             }
-            _ => return Err(Stop::WriteFault),
+            _ => {
+                self.failed = true;
+                return Err(Stop::WriteFault);
+            }
         }
     }
 
-    // Writes the whole text. Each turn makes one write, which accepts a byte or is an interruption
-    // that is retried. So there are no more writes than bytes and retries, and none after a write
-    // that failed or accepted nothing.
+    // Writes the whole text, unless a write has failed before. Each turn makes one write, which
+    // accepts a byte or is an interruption that is retried. So there are no more writes than bytes
+    // and retries, and none after a write that failed or accepted nothing.
     pub(crate) fn write_text(&mut self, text: &[u8]) -> Result<(), Stop>
         ensures written { Writes self.old.held self.new.held result text.now }
         ensures asks { AsksAtMost self.old self.new (length text.now) }
         ensures vain { NoWriteInVain self.old self.new result }
+        ensures failed { IfErr result (λ _. self.new.failed ≡ true) }
         ensures continues { GoesOn self.old self.new }
     {
+        if self.failed {
+            return Err(Stop::WriteFault);
+        }
         let mut at = 0;
         let turns = text.len() + (INTERRUPTIONS - self.interrupted) as usize + 1;
         for _turn in 0..turns {
@@ -101,7 +132,7 @@ impl<'a, W: Write> Output<'a, W> {
     // Writes the text, or a prefix of it if the writer fails.
     fn write_front(&mut self, text: &[u8])
         ensures front { AppendsFront self.old.held self.new.held text.now }
-        ensures whole_or_failed { Appends self.old.held self.new.held text.now ⊎ HasFailed self.old self.new }
+        ensures whole_or_failed { Appends self.old.held self.new.held text.now ⊎ (self.new.failed ≡ true) }
         ensures asks { AsksAtMost self.old self.new (length text.now) }
         ensures continues { GoesOn self.old self.new }
     {
@@ -113,7 +144,8 @@ impl<'a, W: Write> Output<'a, W> {
     /// # Errors
     ///
     /// `Stop::WriteFault`, the only error: a write failed, accepted nothing, or was interrupted
-    /// after `INTERRUPTIONS` retries. A prefix of the line, possibly empty, was appended.
+    /// after `INTERRUPTIONS` retries. A prefix of the line, possibly empty, was appended. After a
+    /// write of this output that failed, nothing is.
     pub fn write_line(&mut self, mut line: Line) -> Result<(), Stop>
         requires room { length line + 1 ≤ LINE }
         ensures written { Writes self.old.held self.new.held result (line_text line) }
@@ -128,8 +160,10 @@ impl<'a, W: Write> Output<'a, W> {
 
 /// Writes a text that is not part of a run, or a prefix of it if the writer fails. A failure is
 /// ignored, and the contract promises only that a prefix was appended.
-pub fn say<W: Write>(out: &mut W, text: &[u8])
-    ensures said { AppendsFront (W.contents out.old) (W.contents out.new) text.now }
+pub fn say<W: Recorder>(out: &mut W, text: &[u8])
+    ensures said { AppendsFront (Some (W.recorded out.old).bytes) (Some (W.recorded out.new).bytes) text.now }
+    ensures same { IsSameWriter (W.recorded out.old) (W.recorded out.new) }
+    ensures writes { WritesWithin (W.recorded out.old) (W.recorded out.new) }
 {
     let mut output = Output::new(out);
     output.write_front(text);

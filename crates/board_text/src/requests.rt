@@ -1,19 +1,19 @@
 //! Parses the records of an input.
-ghost use Rattle.std.specs.Prelude.{◌≡◌, true, IfOk};
+ghost use Rattle.std.specs.Prelude.{◌≡◌, option_map};
+ghost use Rattle.std.specs.Option.{ok_or};
+ghost use Rattle.council_core.specs.declared.refusals.Refusal.TheVariants.{BadRecord};
 ghost use Rattle.csv.specs.Records.{fields_of};
 ghost use Rattle.board_text.specs.Requests.{command_of_one, command_of_two, is_header, is_mark, member_of};
-ghost use Rattle.board_text.specs.Requests.{request_of, submission};
+ghost use Rattle.board_text.specs.Requests.{submission};
 ghost use Rattle.board_text.specs.Numbers.{number_of_digits};
 ghost use Rattle.board_text.specs.declared.requests.Request.TheVariants.{Read};
-ghost use Rattle.board_text.specs.Text.{is_served, request_within};
-ghost use Rattle.board_text.specs.Output.{at_record};
+ghost use Rattle.board_text.specs.Text.{is_served, request_within, valid_or_refused};
 ghost use Rattle.majority_rule.specs.Majorities.{majority_of};
 ghost use Rattle.board_text.specs.Words.{pair_of, chair_of, code_of_member, target_chair, votes_of};
 
 use crate::bounds::Limits;
 use crate::fields::{Fields, fields_in, is_word};
 use crate::numbers::number_of_field;
-use crate::stops::Stop;
 use council_core::{ChairId, Command, MemberCode, Order, Refusal, Votes};
 use csv::ByteRecord;
 use majority_rule::Majority;
@@ -23,9 +23,9 @@ use majority_rule::Majority;
 pub enum Request {
     /// A call of the writer.
     Order(Order),
-    /// Read the published sheet as the reader of this number, not yet checked against the limits,
-    /// at this majority.
-    Read(u64, Majority),
+    /// Read the published sheet as the reader of this number, which the limits have, at this
+    /// majority.
+    Read(u8, Majority),
 }
 
 // A chair, by its number.
@@ -63,8 +63,8 @@ fn seat_in(field: &[u8]) -> Option<Option<ChairId>>
     Some(Some(chair))
 }
 
-// The command of a word and one field.
-pub(crate) fn command_of_one(word: &[u8], argument: &[u8]) -> Option<Command>
+/// The command of a word and one field; `None` if they aren't well formed.
+pub fn command_of_one(word: &[u8], argument: &[u8]) -> Option<Command>
     ensures { result ≡ command_of_one word.now argument.now }
 {
     if is_word(word, "open") {
@@ -85,8 +85,8 @@ pub(crate) fn command_of_one(word: &[u8], argument: &[u8]) -> Option<Command>
     None
 }
 
-// The command of a word and two fields.
-pub(crate) fn command_of_two(word: &[u8], first: &[u8], second: &[u8]) -> Option<Command>
+/// The command of a word and two fields; `None` if they aren't well formed.
+pub fn command_of_two(word: &[u8], first: &[u8], second: &[u8]) -> Option<Command>
     ensures { result ≡ command_of_two word.now first.now second.now }
 {
     if is_word(word, "move") {
@@ -104,37 +104,42 @@ pub(crate) fn command_of_two(word: &[u8], first: &[u8], second: &[u8]) -> Option
     None
 }
 
+// The request to submit a command, if there is one.
+fn submission_in(command: Option<Command>) -> Result<Request, Refusal>
+    ensures { result ≡ ok_or (option_map submission command) BadRecord }
+{
+    let command = command.ok_or(Refusal::BadRecord)?;
+    Ok(Request::Order(Order::Submit(command)))
+}
+
 // A reading by a numbered reader at a majority.
-fn reading_in(reader: &[u8], majority: &[u8]) -> Option<Request>
-    ensures { result ≡ pair_of Read (number_of_digits reader.now) (majority_of majority.now) }
+fn reading_in(limits: Limits, reader: &[u8], majority: &[u8]) -> Result<Request, Refusal>
+    ensures { result ≡ valid_or_refused (is_served limits)
+        (pair_of Read (number_of_digits reader.now) (majority_of majority.now)) }
 {
-    let reader = number_of_field(reader)?;
-    let majority = Majority::from_word(majority)?;
-    Some(Request::Read(reader, majority))
+    let reader = number_of_field(reader).ok_or(Refusal::BadRecord)?;
+    let majority = Majority::from_word(majority).ok_or(Refusal::BadRecord)?;
+    let reader = limits.reader(reader).ok_or(Refusal::BadReader)?;
+    Ok(Request::Read(reader, majority))
 }
 
-// The request to submit a command.
-fn submission(command: Command) -> Request
-    ensures { result ≡ submission command }
-{
-    Request::Order(Order::Submit(command))
-}
-
-// The request of a record, or `None` if the record isn't well formed.
-fn request_of(row: &ByteRecord) -> Option<Request>
-    ensures { result ≡ request_of (fields_of row.now) }
+/// What a record of a script asks for.
+///
+/// # Errors
+///
+/// `BadRecord` if the record isn't well formed, `BadReader` if its reader number isn't from 1 to
+/// `limits.readers`.
+pub fn request_in(limits: Limits, row: &ByteRecord) -> Result<Request, Refusal>
+    ensures same { result ≡ request_within limits (fields_of row.now) }
 {
     match fields_in(row) {
-        Fields::One(word) if is_word(word, "publish") => Some(Request::Order(Order::Publish)),
-        Fields::Two(word, argument) => Some(submission(command_of_one(word, argument)?)),
+        Fields::One(word) if is_word(word, "publish") => Ok(Request::Order(Order::Publish)),
+        Fields::Two(word, argument) => submission_in(command_of_one(word, argument)),
         Fields::Three(word, reader, majority) if is_word(word, "read") => {
-            reading_in(reader, majority)
+            reading_in(limits, reader, majority)
         }
-        Fields::Three(word, first, second) => {
-            let command = command_of_two(word, first, second)?;
-            Some(submission(command))
-        }
-        _ => None,
+        Fields::Three(word, first, second) => submission_in(command_of_two(word, first, second)),
+        _ => Err(Refusal::BadRecord),
     }
 }
 
@@ -170,33 +175,4 @@ pub(crate) fn member_in(row: &ByteRecord) -> Option<(MemberCode, Votes)>
         }
         _ => None,
     }
-}
-
-// Whether the reader number of a request is in range. A request that isn't a reading always passes.
-fn is_served(limits: Limits, request: &Request) -> bool
-    ensures known { result ≡ is_served limits request.now }
-{
-    match request {
-        Request::Read(reader, _) => limits.has_reader(*reader),
-        _ => true,
-    }
-}
-
-/// The request of record number `number` of a script.
-///
-/// # Errors
-///
-/// `Stop::Input` at `number`: `BadRecord` if the record isn't well formed, `BadReader` if its reader
-/// number isn't from 1 to `limits.readers`.
-pub fn request_in(limits: Limits, row: &ByteRecord, number: u32) -> Result<Request, Stop>
-    ensures same { result ≡ at_record number (request_within limits (fields_of row.now)) }
-    ensures served { IfOk result (λ q. is_served limits q ≡ true) }
-{
-    let Some(request) = request_of(row) else {
-        return Err(Stop::at(Refusal::BadRecord, number));
-    };
-    if !is_served(limits, &request) {
-        return Err(Stop::at(Refusal::BadReader, number));
-    }
-    Ok(request)
 }

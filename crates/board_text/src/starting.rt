@@ -1,9 +1,9 @@
 //! The start of a run: reads the whole input, then the records before the script.
 ghost use Rattle.std.specs.Prelude.{◌≡◌, ◌≤◌, ◌<◌, ◌+◌, ◌^◌, [], Ok, true, false, length};
 ghost use Rattle.std.specs.Prelude.{IfOk, IfErr, IsErrOf, OnOk};
-ghost use Rattle.recording_io.specs.Tapes.{OfInput};
+ghost use Rattle.recording_io.specs.Tapes.{CallsWithin, OfInput};
 ghost use Rattle.council_core.specs.declared.refusals.Refusal.TheVariants as why;
-ghost use Rattle.board_text.specs.Inputs.{IsReadFault, NoReadInVain, ReadsWithin};
+ghost use Rattle.board_text.specs.Streams.{most_reads_by};
 ghost use Rattle.board_text.specs.Output.{Fails, Starts};
 ghost use Rattle.board_text.specs.Text.{started_of, started_after, fault_at, in_range, opened_of};
 
@@ -45,8 +45,7 @@ pub fn read_within<R: Read + Drop>(
     ensures whole { IfOk result (λ text. OfInput input.old input.new (λ bytes. text.items ≡ bytes)) }
     ensures fits { IfOk result (λ text. length text.items ≤ INPUT_LIMIT) }
     ensures in_range { OnOk result (in_range limits ≡ true) }
-    ensures reads { ReadsWithin IsReadFault input.old input.new result }
-    ensures vain { NoReadInVain input.old input.new result }
+    ensures reads { CallsWithin (most_reads_by result) input.old.calls input.new.calls }
     ensures fault { IfErr result (λ e. OfInput input.old input.new (λ bytes. Fails e (started_of limits bytes))) }
     ensures limits_first { in_range limits ≡ false
         → IsErrOf result (Stop.Input (fault_at why.BadLimit 0)) × (input.new ≡ input.old) }

@@ -1,4 +1,5 @@
-pub mod RowLemmas
-pub mod OpeningFacts
+mod RowLemmas
+mod OpeningFacts
 mod CountCases
 mod WorkedCases
+pub mod Face

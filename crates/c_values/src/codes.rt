@@ -4,10 +4,9 @@ ghost use Rattle.c_values.specs.Given.{ended_by_zero, given_chair, given_code, g
 
 use council_core::{ChairId, MemberCode, Refusal, Votes};
 
-/// The code of no member.
+/// The code in a command that names no member.
 pub(crate) const NO_CODE: [u8; 4] = [0; 4];
 
-// The member's code.
 pub(crate) fn code_of(code: &[u8; 4]) -> Result<MemberCode, Refusal>
     ensures { result ≡ given_code code.now }
 {
@@ -27,7 +26,6 @@ pub(crate) fn code_for(code: &MemberCode) -> [u8; 4]
     [a, b, c, 0]
 }
 
-// The chair with this number.
 pub(crate) fn chair_of(number: u64) -> Result<ChairId, Refusal>
     ensures { result ≡ given_chair number }
 {
@@ -37,7 +35,6 @@ pub(crate) fn chair_of(number: u64) -> Result<ChairId, Refusal>
     }
 }
 
-// The number of a chair.
 pub(crate) fn chair_for(chair: ChairId) -> u64
     ensures written { result ≡ chair }
     ensures read_back { given_chair result ≡ Ok chair }
@@ -67,14 +64,12 @@ pub(crate) fn seat_for(seat: Option<ChairId>) -> u64
     }
 }
 
-// This number of votes.
 pub(crate) fn votes_of(number: u64) -> Result<Votes, Refusal>
     ensures { result ≡ given_votes number }
 {
     Votes::new(number)
 }
 
-// The number of votes.
 pub(crate) fn votes_for(votes: Votes) -> u64
     ensures written { result ≡ votes }
     ensures read_back { given_votes result ≡ Ok votes }

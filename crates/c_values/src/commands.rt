@@ -47,7 +47,7 @@ pub struct BoardCommand {
 ///
 /// # Errors
 ///
-/// `Refusal::BadRecord` for a kind of no command; otherwise `Refusal::BadMember`, then
+/// `Refusal::BadRecord` for a number that is no kind of command; otherwise `Refusal::BadMember`, then
 /// `Refusal::BadChair` or `Refusal::VotesTooLarge`, for a part of the kind that is out of range.
 pub fn command_of(command: &BoardCommand) -> Result<Command, Refusal>
     ensures given { result ≡ given_command command.now }
@@ -74,7 +74,6 @@ pub fn command_of(command: &BoardCommand) -> Result<Command, Refusal>
     }
 }
 
-// A struct with these parts.
 fn with_parts(kind: u32, code: [u8; 4], chair: u64, votes: u64) -> BoardCommand
     ensures { result ≡ record { kind = kind; code = code; chair = chair; votes = votes } }
 {

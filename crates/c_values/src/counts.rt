@@ -86,7 +86,6 @@ fn rows_of(rows: &[ChairPower]) -> [BoardChair; CHAIRS]
     chairs
 }
 
-// The counts that these indices contain.
 fn counts_of(indices: &Indices) -> BoardCounts
     ensures { AreCountsAmong indices.now result }
 {
@@ -144,7 +143,6 @@ pub fn counts_by_number(
     Ok(counts_of_sheet(sheet, majority, room))
 }
 
-// The counts of an evaluator's sheet by a majority.
 fn counts_by(evaluator: &LentEvaluator, majority: Majority) -> BoardCounts
     ensures counts { AreCountsOf majority evaluator.now result }
 {

@@ -31,7 +31,6 @@ pub struct BoardMemberRow {
     pub votes: u64,
 }
 
-// The member that an entry gives.
 fn entry_of(entry: &BoardEntry) -> Result<(MemberCode, Votes), Refusal>
     ensures { result ≡ given_entry entry.now }
 {

@@ -1,5 +1,8 @@
 //! What a program in C and the library's calls exchange: members, commands and counts as plain
 //! structs, and what each struct means.
+//!
+//! A name with `_of` reads what a caller in C gives, as `command_of`, and one with `_for` makes what
+//! a caller gets, as `command_for`.
 #![tactic(auto)]
 
 mod codes;

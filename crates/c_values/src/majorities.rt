@@ -4,7 +4,6 @@ ghost use Rattle.c_values.specs.Counts.{majority_number, majority_numbered};
 
 use majority_rule::Majority;
 
-// The majority with this number, or `None`.
 pub(crate) fn majority_at(number: u32) -> Option<Majority>
     ensures { result ≡ majority_numbered number }
 {

@@ -5,7 +5,7 @@ ghost use Rattle.board_runs.specs.Replays.{run_of};
 
 use board_runs::replay;
 use board_text::{Fault, Limits};
-use recording_io::RecordingReader;
+use recording_io::{RecordingReader, RecordingWriter};
 use std::alloc::Global;
 
 /// Replays `input` and appends the output of the run to `out`.
@@ -18,5 +18,8 @@ pub fn replay_slice(
     ensures wrote { OnOk result (out.new.items ≡ out.old.items ++ output (run_of limits input.now)) }
 {
     let mut reader = RecordingReader::new(input);
-    replay(alloc, &mut reader, out, limits)
+    let mut recorder = RecordingWriter::new(out);
+    let result = replay(alloc, &mut reader, &mut recorder, limits);
+    let _out = recorder.into_inner();
+    result
 }

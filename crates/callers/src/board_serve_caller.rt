@@ -7,7 +7,7 @@ ghost use Rattle.board_serve.specs.Plans.{plan_of};
 use board_serve::{FreeGate, Served, serve};
 use board_text::Fault;
 use council_core::MAX_COMMANDS;
-use recording_io::RecordingReader;
+use recording_io::{RecordingReader, RecordingWriter};
 use std::alloc::Global;
 use std::sync::Wait;
 use std::thread::Threads;
@@ -24,5 +24,13 @@ pub fn serve_slice<T: Threads + Wait + Sync>(
         (λ served. IfOk (plan_of MAX_COMMANDS input.now) (λ plan. ServedLegalRecords plan served)) }
 {
     let mut reader = RecordingReader::new(input);
-    serve(rt, alloc, &FreeGate, &mut reader, out, MAX_COMMANDS)
+    let mut recorder = RecordingWriter::new(out);
+    serve(
+        rt,
+        alloc,
+        &FreeGate,
+        &mut reader,
+        &mut recorder,
+        MAX_COMMANDS,
+    )
 }

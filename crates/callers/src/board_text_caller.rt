@@ -20,5 +20,8 @@ pub fn first_request(alloc: Global, text: &[u8], limits: Limits) -> Result<Optio
     if !script.next(&mut row)? {
         return Ok(None);
     }
-    Ok(Some(request_in(limits, &row, 1)?))
+    match request_in(limits, &row) {
+        Ok(request) => Ok(Some(request)),
+        Err(why) => Err(Stop::at(why, 1)),
+    }
 }

@@ -12,8 +12,8 @@ pub fn forward<R: Read + Drop, W: Write>(
     from: R,
     to: &mut W,
 ) -> io::Result<(RecordingReader<R>, usize)>
-    ensures asks { IfOk result (λ r. r.0.asks ≡ 1) }
-    ensures wrote { IfOk result (λ r. Appends (W.contents to.old) (W.contents to.new) (take r.1 r.0.gave)) }
+    ensures calls { IfOk result (λ r. r.0.calls.made ≡ 1) }
+    ensures wrote { IfOk result (λ r. Appends (W.contents to.old) (W.contents to.new) (take r.1 r.0.bytes)) }
 {
     let (mut reader, mut writer) = (RecordingReader::new(from), RecordingWriter::new(to));
     let mut bytes = [0; 512];

@@ -1,19 +1,20 @@
-pub mod CodeLemmas
-pub mod MemberLemmas
+mod CodeLemmas
+mod MemberLemmas
 mod PublishedLemmas
-pub mod WorkedCases
-pub mod LawCases
+mod WorkedCases
+mod LawCases
 mod LimitCases
-pub mod SheetLemmas
-pub mod RollLemmas
-pub mod MirrorLemmas
-pub mod RegisterLemmas
-pub mod ChangeLemmas
-pub mod UndoLemmas
-pub mod SheetOfLemmas
-pub mod AssembleLemmas
-pub mod StartLemmas
-pub mod StoreLemmas
-pub mod OpenChairs
-pub mod CoalitionLemmas
-pub mod LawLemmas
+mod SheetLemmas
+mod RollLemmas
+mod MirrorLemmas
+mod RegisterLemmas
+mod ChangeLemmas
+mod UndoLemmas
+mod SheetOfLemmas
+mod AssembleLemmas
+mod StartLemmas
+mod StoreLemmas
+mod OpenChairs
+mod CoalitionLemmas
+mod LawLemmas
+pub mod Face

@@ -6,9 +6,10 @@ use Rattle.council_core.specs.Ledgers.{start_verdict}
 use Rattle.council_core.specs.Rolls.{Roll, Opening, new_entry, admit_member, sheet, cast, roll_after}
 use Rattle.council_core.specs.Coalitions.{eta_of, omega_of, threshold_rule}
 use Rattle.council_core.specs.Sheets.{Chair}
-use Rattle.council_core.specs.Sequential.{Sequential, Reply, answered, submit, publish, published_sheet, read, reading, replies_of}
+use Rattle.council_core.specs.Sequential.{Sequential, Reply, WouldAccept, answered, submit, publish, published_sheet, read, reading, replies_of}
 use Rattle.council_core.specs.Published.{sequential_taken_back}
 use Rattle.council_core.specs.declared.calls.Answer.TheVariants as answer
+use Rattle.council_core.specs.declared.calls.Order.TheVariants as order
 use Rattle.council_core.specs.declared.refusals.Refusal.{Refusal}
 use Rattle.council_core.specs.declared.limits.TheConstants.{MAX_COMMANDS, MAX_MEMBERS, MAX_TOTAL, MAX_VOTES}
 use Rattle.council_core.specs.declared.refusals.Refusal.TheVariants.{ChairOpen, JournalFull, MemberSuspended, ChairHasMembers, ChairNotOpen, UnknownMember, TooManyMembers, MemberExists, MemberSeated, BadLimit, DuplicateMember, NoEntry, TooManyChairs}
@@ -127,7 +128,7 @@ starts_up_to = (refl, refl)
 pub numbered : (map code_of every_refusal ≡ range_with_len 1 35) × (refusal_of 18 ≡ Some NoEntry) × (refusal_of 33 ≡ Some TooManyChairs)
 numbered = (refl, refl, refl)
 
--- a register with three accepted commands, so many of which are published
+-- a register with three accepted commands, of which the first `published` are published
 abbrev with_three : ℕ → Sequential
 with_three published = record { ledger = record { opening = three_members; journal = Open 1 ∷ Open 2 ∷ Open 3 ∷ []; limit = 5 }; published = published }
 
@@ -158,3 +159,13 @@ none_published_first h = zero_is_not_three (ap (λ s. s.published) h)
   where
     zero_is_not_three : ◌≡◌ {A = ℕ} 0 3 → ⊥
     zero_is_not_three e = omega (arith, e)
+
+-- the register would accept to open a fourth chair, but not the first again; a publication is no command
+pub would_open : WouldAccept (with_three 1) (order.Submit (Open 4))
+would_open = refl
+
+pub would_refuse : WouldAccept (with_three 1) (order.Submit (Open 1)) → ⊥
+would_refuse h = cc h
+
+pub no_command : WouldAccept (with_three 1) order.Publish → ⊥
+no_command h = h

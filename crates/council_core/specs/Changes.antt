@@ -45,7 +45,7 @@ Replays commands entries totals after after_totals =
     (roll : Roll) → AgreesWith roll entries totals → all_accepted roll commands ≡ true
     → AgreesWith (fold_from roll commands) after after_totals
 
--- the totals are those of a roll after so many commands
+-- the totals are those of a roll after `front` commands
 abbrev pub IsShownAfter : ℕ → ChairTotals → Type 0
 IsShownAfter front totals =
     (roll : Roll) × (entries : List RollEntry) × AgreesWith roll entries totals × (front ≤ MAX_COMMANDS)

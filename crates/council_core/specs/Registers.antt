@@ -35,7 +35,8 @@ pub record Mirrors (roll : Roll) (entries : List RollEntry) (words counts : List
 -- the invariant of every register: members with which a register can start, commands that set votes
 -- in range, a legal journal within its limit, room for MAX_MEMBERS members, and stored data that agree
 -- with the roll after this journal
-pub record IsKept (ledger : Ledger) (entries : List RollEntry) (spare : ℕ) (words counts : List ℕ) (sum : ℕ) : Type 0 where
+pub record IsKept (ledger : Ledger) (entries : List RollEntry) (spare : ℕ) (words counts : List ℕ)
+    (sum : ℕ) : Type 0 where
   pub begun : laws.IsOpening ledger.opening
   pub votes : All SetsInRange ledger.journal
   pub legal : all_accepted (opening_roll ledger.opening) ledger.journal ≡ true

@@ -49,6 +49,11 @@ response_to s (ordered order.Publish) =
     (record s { published = length s.ledger.journal }, answered (answer.Published (length s.ledger.journal)))
 response_to s read = (s, reading (published_sheet s))
 
+-- the order is a command that the register would accept
+abbrev pub WouldAccept : Sequential → Order → Type 0
+WouldAccept s (order.Submit command) = verdict_of s.ledger command ≡ Ok tt
+WouldAccept s order.Publish = ⊥
+
 -- the replies to a list of calls
 abbrev pub replies_of : Sequential → List Call → List Reply
 replies_of s [] = []

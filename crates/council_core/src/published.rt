@@ -1,8 +1,8 @@
 //! The register together with the sheet published last, which readers see.
-ghost use Rattle.std.specs.Prelude.{◌≡◌, ◌≤◌, length, IfOk, IsOkUnless, OnErr};
+ghost use Rattle.std.specs.Prelude.{◌≡◌, ◌≤◌, length, IfOk, IsOkUnless, Ok, OnErr};
 ghost use Rattle.council_core.specs.Ledgers.{ledger_with, verdict_of};
 ghost use Rattle.council_core.specs.Published.{sequential_as_of, sequential_taken_back};
-ghost use Rattle.council_core.specs.Sequential.{answered, ordered, published_sheet, response_to, submit};
+ghost use Rattle.council_core.specs.Sequential.{WouldAccept, answered, ordered, published_sheet, response_to, submit};
 ghost use Rattle.council_core.specs.Sheets.{IsSheet};
 ghost use Rattle.council_core.specs.Verdicts.{Follows};
 ghost use Rattle.council_core.specs.declared.refusals.Refusal.TheVariants.{OutOfMemory};
@@ -104,6 +104,7 @@ impl PublishedRegister {
         ensures replied { IfOk result (λ a. answered a ≡ (response_to self.old (submit command)).1) }
         ensures after { IfOk result (λ _. self.new ≡ (response_to self.old (submit command)).0) }
         ensures memory { IsOkUnless result OutOfMemory }
+        ensures acceptable { OnErr result (verdict_of self.old.ledger command ≡ Ok tt) }
         ensures unchanged { OnErr result (self.new ≡ self.old) }
     {
         match self.apply(command) {
@@ -117,11 +118,13 @@ impl PublishedRegister {
     ///
     /// # Errors
     ///
-    /// `Refusal::OutOfMemory` if memory could not be allocated; nothing has changed then.
+    /// `Refusal::OutOfMemory` if memory could not be allocated for a command that would be accepted;
+    /// nothing has changed then.
     pub fn answer(&mut self, order: Order) -> Result<Answer, Refusal>
         ensures replied { IfOk result (λ a. answered a ≡ (response_to self.old (ordered order)).1) }
         ensures after { IfOk result (λ _. self.new ≡ (response_to self.old (ordered order)).0) }
         ensures memory { IsOkUnless result OutOfMemory }
+        ensures acceptable { OnErr result (WouldAccept self.old order) }
         ensures unchanged { OnErr result (self.new ≡ self.old) }
     {
         match order {

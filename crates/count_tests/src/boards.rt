@@ -25,12 +25,25 @@ fn seat_all(register: &mut Register, members: &[(MemberCode, Votes)]) -> Result<
     Ok(())
 }
 
+// The sheet of a register after all its members have moved into its chairs.
+fn seated_sheet(
+    register: &mut Register,
+    members: &[(MemberCode, Votes)],
+) -> Result<Sheet, Refusal> {
+    seat_all(register, members)?;
+    Ok(register.sheet())
+}
+
+// The sheet of a register with these members, in all chairs.
+fn sheet_with(alloc: Global, members: &[(MemberCode, Votes)]) -> Result<Sheet, Refusal> {
+    let mut register = Register::start(alloc, members, 288)?;
+    seated_sheet(&mut register, members)
+}
+
 // The sheet at all limits: 32 chairs with the votes of eight members each, 2^48 votes in total.
 fn largest_sheet(alloc: Global) -> Result<Sheet, Refusal> {
     let members = all_members(alloc)?;
-    let mut register = Register::start(alloc, members.as_slice(), 288)?;
-    seat_all(&mut register, members.as_slice())?;
-    Ok(register.sheet())
+    sheet_with(alloc, members.as_slice())
 }
 
 // The winning coalitions of 32 equal chairs by each majority, and the swings of each chair. A

@@ -8,6 +8,7 @@ use fixtures::{member, open, register, seat, set_votes};
 use majority_rule::Majority;
 use power_index::Evaluator;
 use std::alloc::Global;
+use std::process::Abort;
 use std::test::Fail;
 
 // The number of halves that differ at each sheet: after AAA sits in chair 16 and BBB in chair 17,
@@ -31,11 +32,13 @@ fn halves_that_differ(
     Ok([both, left, right, same, evaluator.set(&register.sheet())])
 }
 
-// Catches an `Evaluator::new` that answers OutOfMemory though there is memory.
-#[test]
-fn partial_rebuild(rt: HostRuntime) -> Result<(), Fail> {
-    let (mut register, mut evaluator) = (register(rt.alloc())?, Evaluator::new(rt.alloc())?);
-    let halves = halves_that_differ(&mut register, &mut evaluator)?;
+// The halves that each sheet builds again, and the indices of the last one.
+fn rebuild_partly<R: Abort>(
+    rt: &R,
+    register: &mut Register,
+    evaluator: &mut Evaluator,
+) -> Result<(), Refusal> {
+    let halves = halves_that_differ(register, evaluator)?;
     let indices = evaluator.evaluate(Majority::Half);
     assert_eq!(rt; halves, [2, 1, 1, 0, 0]);
     assert_eq!(rt;
@@ -50,6 +53,23 @@ fn partial_rebuild(rt: HostRuntime) -> Result<(), Fail> {
             .map(|row| row.swings)
             .eq([0, 2])
     );
+    Ok(())
+}
+
+fn evaluate_partly<R: Abort>(
+    rt: &R,
+    alloc: Global,
+    register: &mut Register,
+) -> Result<(), Refusal> {
+    let mut evaluator = Evaluator::new(alloc)?;
+    rebuild_partly(rt, register, &mut evaluator)
+}
+
+// Catches an `Evaluator::new` that answers OutOfMemory though there is memory.
+#[test]
+fn partial_rebuild(rt: HostRuntime) -> Result<(), Fail> {
+    let mut register = register(rt.alloc())?;
+    evaluate_partly(&rt, rt.alloc(), &mut register)?;
     Ok(())
 }
 

@@ -1,11 +1,12 @@
-pub mod Numbers
+mod Numbers
 mod Chains
 mod Doubling
-pub mod Merging
-pub mod Mirrors
-pub mod SubsetFacts
-pub mod GroupFacts
-pub mod SetSums
-pub mod MaskLemmas
-pub mod WorkedCases
+mod Merging
+mod Mirrors
+mod SubsetFacts
+mod GroupFacts
+mod SetSums
+mod MaskLemmas
+mod WorkedCases
 mod LimitCases
+pub mod Face

@@ -178,36 +178,66 @@ fn analyst(alloc: Global) -> Result<Option<Analyst>, Refusal> {
     Ok(Some(analyst_of(alloc, reader).map_err(|(_, why)| why)?))
 }
 
+fn values_need_none(alloc: Global) -> Result<bool, Refusal> {
+    let values = ([10, 10, 30, 2, 1, 6, 26, 1, 0, 7, 11, 3], *b"AAA", true);
+    asks_for_none(alloc, |_| Ok(()), |_| look_at_values(), values)
+}
+
+// A register that has accepted this number of commands.
+fn a_register_needs_none(alloc: Global, commands: u8) -> Result<bool, Refusal> {
+    let (front, refused) = (u64::from(commands), Refusal::ChairOpen);
+    let checks = [Ok(()), Err(refused)];
+    let answers = ([20, front, front, front, front, 1], checks, Err(refused));
+    let begin = |alloc| with_commands(alloc, commands);
+    asks_for_none(alloc, begin, look_at_register, answers)
+}
+
+fn counting_needs_none(alloc: Global) -> Result<bool, Refusal> {
+    let counting = |alloc| Ok((Evaluator::new(alloc)?, with_commands(alloc, 5)?.sheet()));
+    let count = |state: &mut (Evaluator, Sheet)| Ok(count_all(&mut state.0, &state.1));
+    asks_for_none(alloc, counting, count, [1, 11, 8, 8, 4, 5, 8])
+}
+
+fn a_list_of_sets_needs_none(alloc: Global) -> Result<bool, Refusal> {
+    let list = |half: &mut HalfSums| Ok(list_sets(half));
+    asks_for_none(alloc, HalfSums::new, list, ([4, 2, 3, 10], false))
+}
+
+fn a_machine_needs_none(alloc: Global) -> Result<bool, Refusal> {
+    let kept = |alloc| Ok(Some(with_commands(alloc, 2)?));
+    asks_for_none(alloc, kept, start_machine, (true, 3, [false; 2]))
+}
+
+fn a_writer_needs_none<R: Wait>(rt: &R, alloc: Global) -> Result<bool, Refusal> {
+    let board = |alloc| board_over(alloc, with_commands(alloc, 2)?, 2);
+    let publish = |board: &mut (Writer, Vec<Reader>)| publish_two(rt, &mut board.0);
+    asks_for_none(alloc, board, publish, ([3, 4, 4, 4], 4, false))
+}
+
+fn a_reader_needs_none(alloc: Global) -> Result<bool, Refusal> {
+    let reader = |alloc| last_reader(alloc, with_commands(alloc, 5)?, 1);
+    let read = |reader: &mut Reader| read_twice(reader).ok_or(Refusal::BadReader);
+    asks_for_none(alloc, reader, read, (5, 5, 1))
+}
+
+fn an_analyst_needs_none(alloc: Global) -> Result<bool, Refusal> {
+    let ask = |kept: &mut Option<Analyst>| ask_half(kept).ok_or(Refusal::BadReader);
+    asks_for_none(alloc, analyst, ask, (11, 8, 5, 1))
+}
+
 // Catches a call that allocates: no contract says that a call needs no memory.
 #[test]
 fn calls_without_memory(rt: HostRuntime) -> Result<(), Fail> {
     let alloc = rt.alloc();
-    let values = ([10, 10, 30, 2, 1, 6, 26, 1, 0, 7, 11, 3], *b"AAA", true);
-    assert!(rt; asks_for_none(alloc, |_| Ok(()), |_| look_at_values(), values)?);
+    assert!(rt; values_need_none(alloc)?);
     for commands in [2, 4, 5] {
-        let (front, refused) = (u64::from(commands), Refusal::ChairOpen);
-        let checks = [Ok(()), Err(refused)];
-        let answers = ([20, front, front, front, front, 1], checks, Err(refused));
-        let begin = |alloc| with_commands(alloc, commands);
-        assert!(rt;
-            asks_for_none(alloc, begin, look_at_register, answers)?,
-            "{commands}"
-        );
+        assert!(rt; a_register_needs_none(alloc, commands)?, "{commands}");
     }
-    let counting = |alloc| Ok((Evaluator::new(alloc)?, with_commands(alloc, 5)?.sheet()));
-    let count = |state: &mut (Evaluator, Sheet)| Ok(count_all(&mut state.0, &state.1));
-    assert!(rt; asks_for_none(alloc, counting, count, [1, 11, 8, 8, 4, 5, 8])?);
-    let list = |half: &mut HalfSums| Ok(list_sets(half));
-    assert!(rt; asks_for_none(alloc, HalfSums::new, list, ([4, 2, 3, 10], false))?);
-    let kept = |alloc| Ok(Some(with_commands(alloc, 2)?));
-    assert!(rt; asks_for_none(alloc, kept, start_machine, (true, 3, [false; 2]))?);
-    let board = |alloc| board_over(alloc, with_commands(alloc, 2)?, 2);
-    let publish = |board: &mut (Writer, Vec<Reader>)| publish_two(&rt, &mut board.0);
-    assert!(rt; asks_for_none(alloc, board, publish, ([3, 4, 4, 4], 4, false))?);
-    let reader = |alloc| last_reader(alloc, with_commands(alloc, 5)?, 1);
-    let read = |reader: &mut Reader| read_twice(reader).ok_or(Refusal::BadReader);
-    assert!(rt; asks_for_none(alloc, reader, read, (5, 5, 1))?);
-    let ask = |kept: &mut Option<Analyst>| ask_half(kept).ok_or(Refusal::BadReader);
-    assert!(rt; asks_for_none(alloc, analyst, ask, (11, 8, 5, 1))?);
+    assert!(rt; counting_needs_none(alloc)?);
+    assert!(rt; a_list_of_sets_needs_none(alloc)?);
+    assert!(rt; a_machine_needs_none(alloc)?);
+    assert!(rt; a_writer_needs_none(&rt, alloc)?);
+    assert!(rt; a_reader_needs_none(alloc)?);
+    assert!(rt; an_analyst_needs_none(alloc)?);
     Ok(())
 }

@@ -9,7 +9,7 @@ use council_core::{ChairId, Command, MemberCode, Refusal, Register, Sheet, Votes
 use fixtures::{THREE_PUBLICATIONS, member, open, register, seat, set_votes, two_members};
 use half_sums::{HalfSums, OrderedSums};
 use power_index::Evaluator;
-use recording_io::RecordingReader;
+use recording_io::{RecordingReader, RecordingWriter};
 use std::alloc::Global;
 use std::sync::Wait;
 use std::test::Fail;
@@ -66,15 +66,23 @@ fn each_command() -> Result<[Command; 8], Refusal> {
     ])
 }
 
+fn starting_survives(alloc: Global) -> Result<bool, Refusal> {
+    let begin = |_: &mut ()| Ok(Register::start(alloc, &two_members()?, 100)?.accepted());
+    survives(alloc, 2, |_| Ok(()), begin, Ok(0))
+}
+
+fn applying_survives(alloc: Global, command: Command) -> Result<bool, Refusal> {
+    let apply = |register: &mut Register| register.apply(command);
+    survives(alloc, 1, with_four, apply, Ok(5))
+}
+
 // Catches a `start`, or an `apply` of one kind of command, that answers OutOfMemory with memory.
 #[test]
 fn register_calls(rt: HostRuntime) -> Result<(), Fail> {
     let alloc = rt.alloc();
-    let begin = |_: &mut ()| Ok(Register::start(alloc, &two_members()?, 100)?.accepted());
-    assert!(rt; survives(alloc, 2, |_| Ok(()), begin, Ok(0))?);
+    assert!(rt; starting_survives(alloc)?);
     for command in each_command()? {
-        let apply = |register: &mut Register| register.apply(command);
-        assert!(rt; survives(alloc, 1, with_four, apply, Ok(5))?, "{command:?}");
+        assert!(rt; applying_survives(alloc, command)?, "{command:?}");
     }
     Ok(())
 }
@@ -100,35 +108,53 @@ fn run_rest(alloc: Global, ran: &mut Ran, events: &[Event]) -> Result<u32, Refus
     }
 }
 
-// Catches a `step` or a `run` that answers OutOfMemory with memory, also a `run` of the events that
-// are left after memory ran out.
-#[test]
-fn machine_calls(rt: HostRuntime) -> Result<(), Fail> {
-    let alloc = rt.alloc();
-    let submit = Event::Submit(open(5)?);
+fn a_step_survives(alloc: Global, submit: Event) -> Result<bool, Refusal> {
     let machine = |alloc| Machine::start(with_commands(alloc, 4)?, 2).map_err(|(_, why)| why);
     let step = |machine: &mut Machine| machine.step(submit);
-    assert!(rt; survives(alloc, 1, machine, step, Ok(Note::Accepted(5)))?);
+    survives(alloc, 1, machine, step, Ok(Note::Accepted(5)))
+}
+
+fn a_run_survives(alloc: Global, submit: Event) -> Result<bool, Refusal> {
     let events = [Event::Reader(1), submit, Event::Publish];
     let begun = |alloc| Ok(Ran {
         register: Some(with_commands(alloc, 4)?),
         done: 0,
     });
     let run = |ran: &mut Ran| run_rest(alloc, ran, &events);
-    assert!(rt; survives(alloc, 2, begun, run, Ok(5))?);
+    survives(alloc, 2, begun, run, Ok(5))
+}
+
+// Catches a `step` or a `run` that answers OutOfMemory with memory, also a `run` of the events that
+// are left after memory ran out.
+#[test]
+fn machine_calls(rt: HostRuntime) -> Result<(), Fail> {
+    let submit = Event::Submit(open(5)?);
+    assert!(rt; a_step_survives(rt.alloc(), submit)?);
+    assert!(rt; a_run_survives(rt.alloc(), submit)?);
     Ok(())
+}
+
+fn ordered_sums_survive(alloc: Global) -> Result<bool, Refusal> {
+    let ordered = |_: &mut ()| Ok(OrderedSums::new(alloc)?.ascending().len());
+    survives(alloc, 1, |_| Ok(()), ordered, Ok(1))
+}
+
+fn half_sums_survive(alloc: Global) -> Result<bool, Refusal> {
+    let half = |_: &mut ()| Ok(HalfSums::new(alloc)?.ascending().len());
+    survives(alloc, 2, |_| Ok(()), half, Ok(1))
+}
+
+fn an_evaluator_survives(alloc: Global) -> Result<bool, Refusal> {
+    let evaluator = |_: &mut ()| Ok(Evaluator::new(alloc)?.sheet().chairs());
+    survives(alloc, 2, |_| Ok(()), evaluator, Ok(0))
 }
 
 // Catches a constructor of lists that answers OutOfMemory with memory.
 #[test]
 fn counting_calls(rt: HostRuntime) -> Result<(), Fail> {
-    let alloc = rt.alloc();
-    let ordered = |_: &mut ()| Ok(OrderedSums::new(alloc)?.ascending().len());
-    assert!(rt; survives(alloc, 1, |_| Ok(()), ordered, Ok(1))?);
-    let half = |_: &mut ()| Ok(HalfSums::new(alloc)?.ascending().len());
-    assert!(rt; survives(alloc, 2, |_| Ok(()), half, Ok(1))?);
-    let evaluator = |_: &mut ()| Ok(Evaluator::new(alloc)?.sheet().chairs());
-    assert!(rt; survives(alloc, 2, |_| Ok(()), evaluator, Ok(0))?);
+    assert!(rt; ordered_sums_survive(rt.alloc())?);
+    assert!(rt; half_sums_survive(rt.alloc())?);
+    assert!(rt; an_evaluator_survives(rt.alloc())?);
     Ok(())
 }
 
@@ -218,31 +244,49 @@ fn audit_all(alloc: Global, readings: &[Vec<Sheet>]) -> Result<Option<AuditFault
     }
 }
 
+fn a_start_survives(alloc: Global, readers: u8) -> Result<bool, Refusal> {
+    let kept = |alloc| Ok(Some(register(alloc)?));
+    let begin = |kept: &mut Option<Register>| start_board(alloc, kept, readers);
+    survives(alloc, 3, kept, begin, Ok(usize::from(readers)))
+}
+
+fn an_analyst_survives(alloc: Global, readers: u8) -> Result<bool, Refusal> {
+    let last = |alloc| Ok(Some(last_reader(alloc, register(alloc)?, readers)?));
+    let analyse = |kept: &mut Option<Reader>| make_analyst(alloc, kept);
+    survives(alloc, 2, last, analyse, Ok(readers))
+}
+
+fn a_submit_survives(alloc: Global) -> Result<bool, Refusal> {
+    let board = |alloc| board_over(alloc, register(alloc)?, 2);
+    let submit = |board: &mut (Writer, Vec<Reader>)| submit_open(&mut board.0, 1);
+    survives(alloc, 1, board, submit, Ok(1))
+}
+
+fn an_audit_survives(
+    alloc: Global,
+    older: bool,
+    found: Option<AuditFault>,
+) -> Result<bool, Refusal> {
+    let readings = |alloc| two_readings(alloc, older);
+    let check = |readings: &mut Vec<Vec<Sheet>>| audit_all(alloc, readings.as_slice());
+    survives(alloc, 4, readings, check, Ok(found))
+}
+
 // Catches a call of the board that answers OutOfMemory with memory, also if only for some number of
 // readers, and an audit that does.
 #[test]
 fn board_calls(rt: HostRuntime) -> Result<(), Fail> {
-    let alloc = rt.alloc();
-    for readers in 1..=4u8 {
-        let kept = |alloc| Ok(Some(register(alloc)?));
-        let begin = |kept: &mut Option<Register>| start_board(alloc, kept, readers);
-        assert!(rt; survives(alloc, 3, kept, begin, Ok(usize::from(readers)))?);
-        let last = |alloc| Ok(Some(last_reader(alloc, register(alloc)?, readers)?));
-        let analyse = |kept: &mut Option<Reader>| make_analyst(alloc, kept);
-        assert!(rt; survives(alloc, 2, last, analyse, Ok(readers))?);
+    for readers in 1..=4 {
+        assert!(rt; a_start_survives(rt.alloc(), readers)?);
+        assert!(rt; an_analyst_survives(rt.alloc(), readers)?);
     }
-    let board = |alloc| board_over(alloc, register(alloc)?, 2);
-    let submit = |board: &mut (Writer, Vec<Reader>)| submit_open(&mut board.0, 1);
-    assert!(rt; survives(alloc, 1, board, submit, Ok(1))?);
+    assert!(rt; a_submit_survives(rt.alloc())?);
     let mismatch = AuditFault::Mismatch {
         reader: 1,
         place: 2,
     };
-    for (older, found) in [(false, None), (true, Some(mismatch))] {
-        let readings = |alloc| two_readings(alloc, older);
-        let check = |readings: &mut Vec<Vec<Sheet>>| audit_all(alloc, readings.as_slice());
-        assert!(rt; survives(alloc, 4, readings, check, Ok(found))?);
-    }
+    assert!(rt; an_audit_survives(rt.alloc(), false, None)?);
+    assert!(rt; an_audit_survives(rt.alloc(), true, Some(mismatch))?);
     Ok(())
 }
 
@@ -268,7 +312,14 @@ fn serve_closed<R: Threads + Wait + Sync>(
 {
     let mut input = RecordingReader::new(THREE_PUBLICATIONS.input.as_bytes());
     out.clear();
-    match serve(rt, alloc, &ClosedGate, &mut input, out, 1_000) {
+    match serve(
+        rt,
+        alloc,
+        &ClosedGate,
+        &mut input,
+        &mut RecordingWriter::new(out),
+        1_000,
+    ) {
         Ok(_served) => Ok(()),
         Err(fault) => Err(Refusal::from_code(fault.code).unwrap_or(Refusal::BadLimit)),
     }

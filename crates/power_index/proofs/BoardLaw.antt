@@ -10,21 +10,20 @@ use Rattle.std.proofs.lemmas.Simd.{map-map}
 use Rattle.std.proofs.Math.Seq.{split_at}
 use Rattle.council_core.specs.Sheets.{Chair, open_chairs}
 use Rattle.council_core.specs.Coalitions.{has_chair, omega_of, eta_of, threshold_rule, subsets}
-use Rattle.council_core.proofs.OpenChairs.{numbers_distinct}
+use Rattle.council_core.proofs.Face.{numbers_distinct}
 use Rattle.half_sums.specs.declared.entry.Entry.{Entry}
 use Rattle.swing_walk.specs.Pairs.{large_pairs, large_with, swings_of}
 use Rattle.swing_walk.specs.Laws as laws
 use Rattle.swing_walk.specs.Laws.{board_of, AreHalf}
-use Rattle.swing_walk.proofs.BoardSets as sets
-use Rattle.half_sums.proofs.SetSums.{sum_by-map, sum_agree, over, or_left, or_right}
-use Rattle.half_sums.proofs.MaskLemmas.{first_apart}
-use Rattle.swing_walk.proofs.PairLaws.{over-map, pair_law, shifted}
+use Rattle.swing_walk.proofs.Face.{over-map, pair_law, shifted}
+use Rattle.half_sums.proofs.Face.{first_apart, or_left, or_right, over, sum_agree, sum_by-map}
 use Rattle.power_index.specs.Halves.{weights, chairs_from_slot, left_count, left_weights, right_weights, place_in_counts, open_chair_place, AreHalves}
 use Rattle.power_index.specs.Counts.{etas, EvaluationLaw}
 use Rattle.power_index.proofs.HalfLemmas.{slotted_slots, slotted_distinct, slotted_weights, slotted_length, slotted_at, left_few, right_few}
 use Rattle.power_index.proofs.RowLemmas.{etas_at}
 use Rattle.half_sums.specs.declared.groups.TheConstants.{SLOTS}
 use Rattle.council_core.specs.declared.limits.TheConstants.{CHAIRS}
+use Rattle.swing_walk.proofs.Face as sets
 
 -- a set of these weights wins
 abbrev enough : ℕ → ℕ → List ℕ → Bool

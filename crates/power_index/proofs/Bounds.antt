@@ -6,12 +6,11 @@ use Rattle.std.proofs.lemmas.List.{length-take}
 use Rattle.std.proofs.lemmas.List.Sums.{count_by-le-length}
 use Rattle.council_core.specs.Sheets.{Chair, open_chairs, weight_of}
 use Rattle.council_core.specs.Coalitions.{Rule, has_chair, omega_of, eta_of, threshold_rule, subsets}
-use Rattle.council_core.proofs.OpenChairs.{length-open}
-use Rattle.council_core.proofs.CoalitionLemmas.{length-subsets}
+use Rattle.council_core.proofs.Face.{length-open, length-subsets}
 use Rattle.majority_rule.specs.declared.majorities.Majority.{Majority}
 use Rattle.majority_rule.specs.Winning.{wins, rule_of}
-use Rattle.half_sums.proofs.SetSums.{sum_agree}
-use Rattle.swing_walk.proofs.Coalitions.{both_true}
+use Rattle.half_sums.proofs.Face.{sum_agree}
+use Rattle.swing_walk.proofs.Face.{both_true}
 use Rattle.power_index.specs.Counts.{etas}
 use Rattle.council_core.specs.declared.limits.TheConstants.{CHAIRS}
 

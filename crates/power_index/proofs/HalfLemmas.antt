@@ -8,9 +8,9 @@ use Rattle.std.proofs.Math.Seq.{get_or-append_seam}
 use Rattle.std.proofs.lemmas.Bool.{cases_eq}
 use Rattle.std.proofs.lemmas.List.Elements.{All-weaker}
 use Rattle.std.proofs.lemmas.List.Sums.{sum_by-take-drop}
-use Rattle.half_sums.proofs.SetSums.{sum_by-map}
+use Rattle.half_sums.proofs.Face.{sum_by-map}
 use Rattle.council_core.specs.Sheets.{Chair, open_from, open_chairs, weight_of, IsSheet, cast_of}
-use Rattle.council_core.proofs.OpenChairs.{open_from-cons, chair_of-open, chair_of, weight_of-open, numbers_within, numbers_distinct}
+use Rattle.council_core.proofs.Face.{chair_of, chair_of-open, numbers_distinct, numbers_within, open_from-cons, weight_of-open}
 use Rattle.power_index.proofs.Bounds.{few_chairs}
 use Rattle.power_index.specs.Halves.{weights, chairs_from_slot, left_count, left_weights, right_weights}
 use Rattle.half_sums.specs.declared.groups.TheConstants.{SLOTS}

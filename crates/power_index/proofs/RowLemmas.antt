@@ -5,7 +5,7 @@ use Rattle.std.proofs.lemmas.Bool.{cases_lt, lt-ltb, le-ltb}
 use Rattle.std.proofs.lemmas.List.{get_or-map}
 use Rattle.std.proofs.lemmas.List.Elements.{All-cons, All-nil, All-map}
 use Rattle.std.proofs.Math.Nat.{pow-le-pow_right}
-use Rattle.half_sums.proofs.SetSums.{sum_by-map}
+use Rattle.half_sums.proofs.Face.{sum_by-map}
 use Rattle.council_core.specs.Sheets.{Chair, open_chairs}
 use Rattle.council_core.specs.Coalitions.{Rule, eta_of}
 use Rattle.power_index.specs.Halves.{left_count, open_chair_place}

@@ -4,10 +4,10 @@ use Rattle.std.proofs.Math.Seq.{drop-append_seam}
 use Rattle.std.specs.Io.KnownBytes.{Consumes, IsAtEnd}
 use Rattle.std.proofs.KnownBytes.{Consumes-trans}
 use Rattle.recording_io.specs.Laws.{AreAll, GivenIsInput}
-use Rattle.recording_io.specs.Tapes.{Giving, HasEnded, IsInput, WasGiven, given_since}
+use Rattle.recording_io.specs.Tapes.{ReaderRecord, HasEnded, IsInput, WasGiven, given_since}
 
-since : (from to : Giving) (given : List ℕ) → WasGiven from to given → given_since from to ≡ given
-since from to given w = ap (drop (length from.gave)) w.gave ∙ drop-append_seam from.gave given
+since : (from to : ReaderRecord) (given : List ℕ) → WasGiven from to given → given_since from to ≡ given
+since from to given w = ap (drop (length from.bytes)) w.bytes ∙ drop-append_seam from.bytes given
 
 reported-begins : (a b : Option (List ℕ)) (given bytes : List ℕ) → Consumes a b given → a ≡ Some bytes → (rest : List ℕ) × (bytes ≡ given ++ rest)
 reported-begins None b given bytes c e = cc e
@@ -15,7 +15,7 @@ reported-begins (Some xs) None given bytes c e = absurd c
 reported-begins (Some xs) (Some ys) given bytes c e = let same : xs ≡ bytes = cc in (ys, sym same ∙ c)
 
 -- an input begins with what was given
-pub input-begins : (from to : Giving) (given bytes : List ℕ) → WasGiven from to given → IsInput from to bytes → (rest : List ℕ) × (bytes ≡ given ++ rest)
+pub input-begins : (from to : ReaderRecord) (given bytes : List ℕ) → WasGiven from to given → IsInput from to bytes → (rest : List ℕ) × (bytes ≡ given ++ rest)
 input-begins from to given bytes w (inl reported) = reported-begins from.left to.left given bytes w.left reported
 input-begins from to given bytes w (inr more) = (more.0, more.1 ∙ ap (λ l. l ++ more.0) (since from to given w))
 
@@ -27,18 +27,18 @@ reported-whole (Some xs) (Some ys) given bytes c end e =
     sym (append-nil given) ∙ ap (λ l. given ++ l) (sym end) ∙ sym c ∙ same
 
 -- where the reader said that this is all, what was given is the input
-pub input-whole : (from to : Giving) (given bytes : List ℕ) → WasGiven from to given → HasEnded to → IsInput from to bytes → given ≡ bytes
+pub input-whole : (from to : ReaderRecord) (given bytes : List ℕ) → WasGiven from to given → HasEnded to → IsInput from to bytes → given ≡ bytes
 input-whole from to given bytes w end (inl reported) = reported-whole from.left to.left given bytes w.left end.1 reported
 input-whole from to given bytes w end (inr more) =
     sym (append-nil given) ∙ ap (λ l. given ++ l) (sym (more.2 end.0)) ∙ ap (λ l. l ++ more.0) (sym (since from to given w)) ∙ sym more.1
 
 -- some was given, and then more
-pub given-more : (from mid to : Giving) (a b : List ℕ) → WasGiven from mid a → WasGiven mid to b → WasGiven from to (a ++ b)
+pub given-more : (from mid to : ReaderRecord) (a b : List ℕ) → WasGiven from mid a → WasGiven mid to b → WasGiven from to (a ++ b)
 given-more from mid to a b p q =
-    record { gave = q.gave ∙ ap (λ l. l ++ b) p.gave ∙ append_assoc from.gave a b; left = Consumes-trans from.left mid.left to.left a b p.left q.left }
+    record { bytes = q.bytes ∙ ap (λ l. l ++ b) p.bytes ∙ append_assoc from.bytes a b; left = Consumes-trans from.left mid.left to.left a b p.left q.left }
 
 -- some was given, and then nothing
-pub given-same : (from mid to : Giving) (a : List ℕ) → WasGiven from mid a → WasGiven mid to [] → WasGiven from to a
+pub given-same : (from mid to : ReaderRecord) (a : List ℕ) → WasGiven from mid a → WasGiven mid to [] → WasGiven from to a
 given-same from mid to a p q = subst (WasGiven from to) (append-nil a) (given-more from mid to a [] p q)
 
 pub given-is_input : GivenIsInput

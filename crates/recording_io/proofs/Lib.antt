@@ -1,2 +1,3 @@
-pub mod Inputs
+mod Inputs
 mod WorkedCases
+pub mod Face

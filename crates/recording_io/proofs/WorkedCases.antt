@@ -1,10 +1,10 @@
--- What the definitions of both tapes take and refuse.
-use Rattle.std.proofs.Common.{◌≡◌, ◌≢◌, ◌∙◌, ◌++◌, ap, ℕ, inl, inr, Bool, true, false, List, [], ◌∷◌, Some, None, Ok, Err, refl}
+-- What the definitions of both recorders take and refuse.
+use Rattle.std.proofs.Common.{◌≡◌, ◌≢◌, ◌∙◌, ◌++◌, ap, ℕ, inl, inr, Bool, true, false, List, [], ◌∷◌, Some, None, Ok, Err, refl, arith}
 use Rattle.std.specs.IoError.{error_kind}
 use Rattle.std.specs.declared.io.Error.{Error}
 use Rattle.std.specs.declared.io.ErrorKind.TheVariants.{Interrupted}
 use Rattle.recording_io.specs.Laws.{AreAll, GivenIsInput}
-use Rattle.recording_io.specs.Tapes.{CountsInterruptions, Gives, Giving, HasEnded, IsInput, OfInput, Takes, Taking, WasGiven, is_last}
+use Rattle.recording_io.specs.Tapes.{Calls, CallsWithin, CountsCall, HasEnded, IsInput, IsSameWriter, OfInput, ReaderRecord, RecordsRead, RecordsWrite, WasGiven, WriterRecord, count_written, is_last, no_calls}
 
 abbrev one : List ℕ
 one = 7 ∷ []
@@ -12,12 +12,18 @@ one = 7 ∷ []
 abbrev two : List ℕ
 two = 7 ∷ 8 ∷ []
 
--- a writer after `asks` writes, and a reader after `asks` reads, none in vain or interrupted
-abbrev taking : List ℕ → ℕ → Taking
-taking took asks = record { lender = 0; held = None; took = took; asks = asks; vain = 0; interruptions = 0 }
+-- the calls after this many, none of them empty or interrupted, and after this many empty ones
+abbrev called : ℕ → Calls
+called made = record { made = made; empty = 0; interrupted = 0 }
 
-abbrev giving : List ℕ → Bool → ℕ → Giving
-giving gave ended asks = record { left = None; gave = gave; ended = ended; asks = asks; vain = 0; interruptions = 0 }
+abbrev called_empty : ℕ → ℕ → Calls
+called_empty made empty = record { made = made; empty = empty; interrupted = 0 }
+
+abbrev writer : List ℕ → Calls → WriterRecord
+writer bytes calls = record { writer = 0; at_start = None; contents = None; bytes = bytes; calls = calls }
+
+abbrev giving : List ℕ → Bool → ℕ → ReaderRecord
+giving bytes ended made = record { left = None; bytes = bytes; ended = ended; calls = called made }
 
 -- none went past though there was room
 is_the_last : is_last two 0 ≡ true
@@ -30,77 +36,106 @@ some_went : is_last two 1 ≡ false
 some_went = refl
 
 -- a write is counted, and takes what it says
-takes_one : Takes (taking [] 0) (taking one 1) (Ok 1) two
-takes_one = (refl, refl, (refl, refl))
+takes_one : RecordsWrite (writer [] no_calls) (writer one (called 1)) (Ok 1) two
+takes_one = (refl, refl)
 
-uncounted_write : Takes (taking [] 0) (taking one 0) (Ok 1) two → ⊥
-uncounted_write h = let e = h.0 in cc e
+uncounted_write : RecordsWrite (writer [] no_calls) (writer one no_calls) (Ok 1) two → ⊥
+uncounted_write h = let e = ap (λ (c : Calls). c.made) h.0 in cc e
 
-unnoted_write : Takes (taking [] 0) (taking [] 1) (Ok 1) two → ⊥
-unnoted_write h = let e = h.2.0 in cc e
+unnoted_write : RecordsWrite (writer [] no_calls) (writer [] (called 1)) (Ok 1) two → ⊥
+unnoted_write h = let e = h.1 in cc e
 
 -- so is a read, which reports whether it was the last
-gives_one : Gives (giving [] false 0) (giving one false 1) (Ok 1) two
-gives_one = (refl, refl, (refl, refl, refl))
+gives_one : RecordsRead (giving [] false 0) (giving one false 1) (Ok 1) two
+gives_one = (refl, (refl, refl))
 
-uncounted_read : Gives (giving [] false 0) (giving one false 0) (Ok 1) two → ⊥
-uncounted_read h = let e = h.0 in cc e
+uncounted_read : RecordsRead (giving [] false 0) (giving one false 0) (Ok 1) two → ⊥
+uncounted_read h = let e = ap (λ (c : Calls). c.made) h.0 in cc e
 
-unnoted_read : Gives (giving [] false 0) (giving [] false 1) (Ok 1) two → ⊥
-unnoted_read h = let e = h.2.0 in cc e
+unnoted_read : RecordsRead (giving [] false 0) (giving [] false 1) (Ok 1) two → ⊥
+unnoted_read h = let e = h.1.0 in cc e
 
-unheeded_end : Gives (giving one false 1) (giving one false 2) (Ok 0) two → ⊥
-unheeded_end h = let e = h.2.1 in cc e
+unheeded_end : RecordsRead (giving one false 1) (giving one false 2) (Ok 0) two → ⊥
+unheeded_end h = let e = h.1.1 in cc e
 
--- a call that moves nothing is in vain
-unnoted_vain_write : Takes (taking one 1) (taking one 2) (Ok 0) two → ⊥
-unnoted_vain_write h = let e = h.2.1 in cc e
+-- a call that moves nothing is empty, and one that moves a byte is not
+an_empty_call : CountsCall (called 1) (called_empty 2 1) (Ok 0)
+an_empty_call = refl
 
-unnoted_vain_read : Gives (giving one false 1) (giving one true 2) (Ok 0) two → ⊥
-unnoted_vain_read h = let e = h.2.2 in cc e
+unnoted_empty_call : CountsCall (called 1) (called 2) (Ok 0) → ⊥
+unnoted_empty_call h = let e = ap (λ (c : Calls). c.empty) h in cc e
 
-no_interruption : CountsInterruptions 0 1 (Ok 1) → ⊥
-no_interruption h = cc h
+empty_call_of_a_byte : CountsCall (called 1) (called_empty 2 1) (Ok 1) → ⊥
+empty_call_of_a_byte h = let e = ap (λ (c : Calls). c.empty) h in cc e
 
--- where one fails nothing goes past, and an interruption is counted and no other failure
+no_interruption : CountsCall no_calls (record (called 1) { interrupted = 1 }) (Ok 1) → ⊥
+no_interruption h = let e = ap (λ (c : Calls). c.interrupted) h in cc e
+
+-- where one fails nothing goes past, and it is interrupted or empty
 module _ (e : Error) where
-  takes_none : error_kind e ≢ Interrupted → Takes (taking one 1) (record (taking one 2) { vain = 1 }) (Err e) two
-  takes_none other = (refl, ((λ same. absurd (other same)), (λ not. refl)), (refl, refl))
+  takes_none : error_kind e ≢ Interrupted → RecordsWrite (writer one (called 1)) (writer one (called_empty 2 1)) (Err e) two
+  takes_none other = (((λ same. absurd (other same)), (λ not. refl)), refl)
 
-  unnoted_vain_failure : Takes (taking one 1) (taking one 2) (Err e) two → ⊥
-  unnoted_vain_failure h = let d = h.2.1 in cc d
+  interrupted_call : error_kind e ≡ Interrupted → CountsCall no_calls (record (called 1) { interrupted = 1 }) (Err e)
+  interrupted_call same = ((λ is. refl), (λ other. absurd (other same)))
 
-  noted_failure : Takes (taking [] 0) (taking one 1) (Err e) two → ⊥
-  noted_failure h = let d = h.2.0 in cc d
+  uncounted_interruption : error_kind e ≡ Interrupted → CountsCall no_calls (called 1) (Err e) → ⊥
+  uncounted_interruption same h = let d = ap (λ (c : Calls). c.interrupted) (h.0 same) in cc d
 
-  noted_failed_read : Gives (giving [] false 0) (giving one false 1) (Err e) two → ⊥
-  noted_failed_read h = let d = h.2.0 in cc d
+  empty_interruption : error_kind e ≡ Interrupted → CountsCall no_calls (called_empty 1 1) (Err e) → ⊥
+  empty_interruption same h = let d = ap (λ (c : Calls). c.interrupted) (h.0 same) in cc d
 
-  uncounted_interruption : error_kind e ≡ Interrupted → CountsInterruptions 0 0 (Err e) → ⊥
-  uncounted_interruption same h = let d = h.0 same in cc d
+  other_failure : error_kind e ≢ Interrupted → CountsCall no_calls (record (called 1) { interrupted = 1 }) (Err e) → ⊥
+  other_failure other h = let d = ap (λ (c : Calls). c.interrupted) (h.1 other) in cc d
 
-  other_failure : error_kind e ≢ Interrupted → CountsInterruptions 0 1 (Err e) → ⊥
-  other_failure other h = let d = h.1 other in cc d
+  noted_failure : RecordsWrite (writer [] no_calls) (writer one (called_empty 1 1)) (Err e) two → ⊥
+  noted_failure h = let d = h.1 in cc d
 
-  interrupted_write : Takes (taking [] 0) (taking [] 1) (Err e) two → error_kind e ≢ Interrupted
-  interrupted_write h same = uncounted_interruption same h.1
+  noted_failed_read : RecordsRead (giving [] false 0) (giving one false 1) (Err e) two → ⊥
+  noted_failed_read h = let d = h.1 in cc d
 
-  interrupted_read : Gives (giving [] false 0) (giving [] false 1) (Err e) two → error_kind e ≢ Interrupted
-  interrupted_read h same = uncounted_interruption same h.1
+-- bounds on the calls between two moments, each of its kind
+abbrev most : Calls
+most = record { made = 5; empty = 1; interrupted = 2 }
+
+within : CallsWithin most (called 3) (record { made = 8; empty = 1; interrupted = 2 })
+within = record { made = omega arith; empty = omega arith; interrupted = omega arith }
+
+called_too_often : CallsWithin most (called 3) (called 9) → ⊥
+called_too_often h = absurd (omega (arith, h.made))
+
+called_for_nothing : CallsWithin most (called 3) (called_empty 5 2) → ⊥
+called_for_nothing h = absurd (omega (arith, h.empty))
+
+interrupted_too_often : CallsWithin most (called 3) (record (called 6) { interrupted = 3 }) → ⊥
+interrupted_too_often h = absurd (omega (arith, h.interrupted))
+
+-- a writer is the same whatever it has written, and two bytes more are two
+same_writer : IsSameWriter (writer one no_calls) (writer two (called 1))
+same_writer = (refl, refl)
+
+another_writer : IsSameWriter (writer one no_calls) (record (writer one no_calls) { writer = 1 }) → ⊥
+another_writer h = let e = h.0 in cc e
+
+wrapped_otherwise : IsSameWriter (writer one no_calls) (record (writer one no_calls) { at_start = Some [] }) → ⊥
+wrapped_otherwise h = let e = h.1 in cc e
+
+two_bytes_more : count_written (writer one no_calls) (writer (one ++ two) (called 1)) ≡ 2
+two_bytes_more = refl
 
 -- what was given, and that no more comes
 more_given : WasGiven (giving [] false 0) (giving two false 1) one → ⊥
-more_given h = let e = h.gave in cc e
+more_given h = let e = h.bytes in cc e
 
 not_ended : HasEnded (giving one false 1) → ⊥
 not_ended h = let e = h.0 in cc e
 
 -- where it is known what a reader has left, it has lost what was given, and at its end has none
-abbrev known : List ℕ → Giving → Giving
+abbrev known : List ℕ → ReaderRecord → ReaderRecord
 known left g = record g { left = Some left }
 
 given_and_lost : WasGiven (known two (giving [] false 0)) (known (8 ∷ []) (giving one false 1)) one
-given_and_lost = record { gave = refl; left = refl }
+given_and_lost = record { bytes = refl; left = refl }
 
 given_and_kept : WasGiven (known two (giving [] false 0)) (known two (giving one false 1)) one → ⊥
 given_and_kept h = let e = h.left in cc e

@@ -3,7 +3,7 @@
 ghost use Rattle.std.specs.Prelude.{◌≡◌, false, []};
 ghost use Rattle.std.specs.Io.{ReadsAtMost};
 ghost use Rattle.std.specs.Io.KnownBytes.{ReadConsumes};
-ghost use Rattle.recording_io.specs.Tapes.{Gives};
+ghost use Rattle.recording_io.specs.Tapes.{RecordsRead, no_calls};
 
 use crate::tape::Tape;
 use std::fmt::{Debug, Formatter};
@@ -22,17 +22,15 @@ pub struct RecordingReader<R: Read + Drop> {
 }
 
 impl<R: Read + Drop> Model for RecordingReader<R> {
-    ghost use Rattle.recording_io.specs.Tapes.{Giving};
+    ghost use Rattle.recording_io.specs.Tapes.{ReaderRecord};
 
-    ghost Value = { Giving };
+    ghost Value = { ReaderRecord };
 
     ghost view = { λ g. record {
       left = R.remaining g.from;
-      gave = g.tape.bytes;
+      bytes = g.tape.bytes;
       ended = g.tape.ended;
-      asks = g.tape.asks;
-      vain = g.tape.vain;
-      interruptions = g.tape.interruptions;
+      calls = g.tape.calls;
     } };
 }
 
@@ -52,10 +50,9 @@ impl<R: Read + Drop> RecordingReader<R> {
     /// ```
     pub fn new(from: R) -> RecordingReader<R>
         ensures left { result.left ≡ R.remaining from }
-        ensures gave { result.gave ≡ [] }
+        ensures bytes { result.bytes ≡ [] }
         ensures ended { result.ended ≡ false }
-        ensures asks { (result.asks ≡ 0) × (result.vain ≡ 0) }
-        ensures interruptions { result.interruptions ≡ 0 }
+        ensures calls { result.calls ≡ no_calls }
     {
         RecordingReader {
             from,
@@ -77,7 +74,7 @@ impl<R: Read + Drop> Read for RecordingReader<R> {
     fn read(&mut self, buf: &mut [u8]) -> io::Result<usize>
         ensures bound { ReadsAtMost result buf.new }
         ensures bytes { ReadConsumes self.old.left self.new.left result buf.new }
-        ensures gave { Gives self.old self.new result buf.new }
+        ensures recorded { RecordsRead self.old self.new result buf.new }
     {
         match self.from.read(buf) {
             Ok(count) => {

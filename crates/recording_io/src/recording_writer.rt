@@ -1,14 +1,16 @@
 //! A writer that wraps any writer, such as a process's standard output, and records what was
 //! written in ghost state.
-ghost use Rattle.std.specs.Prelude.{◌≡◌, Some, []};
+ghost use Rattle.std.specs.Prelude.{◌≡◌, [], Some};
 ghost use Rattle.std.specs.Io.{WritesAtMost};
-ghost use Rattle.std.specs.Io.KnownBytes.{Keeps, WriteAppends};
-ghost use Rattle.recording_io.specs.Tapes.{Takes};
+ghost use Rattle.std.specs.Io.KnownBytes.{Appends, Keeps, WriteAppends};
+ghost use Rattle.recording_io.specs.Tapes.{IsSameWriter, RecordsWrite, no_calls};
 
+use crate::recorder::Recorder;
 use crate::tape::Tape;
 use std::fmt::{Debug, Formatter};
 use std::io::{ErrorKind, Write};
 use std::marker::Model;
+use std::snapshot::Snapshot;
 use std::{fmt, io};
 
 /// A writer that borrows another writer and records the bytes that its writes accepted.
@@ -19,22 +21,25 @@ use std::{fmt, io};
 #[derive(Drop)]
 pub struct RecordingWriter<'a, W: Write> {
     to: &'a mut W,
+    start: Snapshot<W>,
     tape: Tape,
 }
 
 impl<'a, W: Write> Model for RecordingWriter<'a, W> {
-    ghost use Rattle.recording_io.specs.Tapes.{Taking};
+    ghost use Rattle.std.specs.Io.KnownBytes.{Appends};
+    ghost use Rattle.recording_io.specs.Tapes.{WriterRecord};
 
-    ghost Value = { Taking };
+    ghost Value = { WriterRecord };
 
     ghost view = { λ t. record {
-      lender = t.to.ghost_name;
-      held = W.contents t.to.now;
-      took = t.tape.bytes;
-      asks = t.tape.asks;
-      vain = t.tape.vain;
-      interruptions = t.tape.interruptions;
+      writer = t.to.ghost_name;
+      at_start = W.contents t.start.value;
+      contents = W.contents t.to.now;
+      bytes = t.tape.bytes;
+      calls = t.tape.calls;
     } };
+
+    ghost invariant = { λ t. Appends (W.contents t.start.value) (W.contents t.to.now) t.tape.bytes };
 }
 
 impl<W: Write> Debug for RecordingWriter<'_, W> {
@@ -53,22 +58,25 @@ impl<'a, W: Write> RecordingWriter<'a, W> {
     /// let _stdout = out.into_inner();
     /// ```
     pub fn new(to: &'a mut W) -> RecordingWriter<'a, W>
-        ensures lender { result.lender ≡ to.entry.ghost_name }
-        ensures held { result.held ≡ W.contents to.entry.now }
-        ensures took { result.took ≡ [] }
-        ensures asks { (result.asks ≡ 0) × (result.vain ≡ 0) }
-        ensures interruptions { result.interruptions ≡ 0 }
+        ensures writer { result.writer ≡ to.entry.ghost_name }
+        ensures at_start { result.at_start ≡ W.contents to.entry.now }
+        ensures contents { result.contents ≡ W.contents to.entry.now }
+        ensures bytes { result.bytes ≡ [] }
+        ensures calls { result.calls ≡ no_calls }
     {
+        let start = Snapshot::of(&*to);
         RecordingWriter {
             to,
+            start,
             tape: Tape::new(),
         }
     }
 
     /// Returns the borrowed writer and drops the record. Writes nothing.
     pub fn into_inner(self) -> &'a mut W
-        ensures lender { result.ghost_name ≡ self.entry.lender }
-        ensures held { W.contents result.now ≡ self.entry.held }
+        ensures writer { result.ghost_name ≡ self.entry.writer }
+        ensures contents { W.contents result.now ≡ self.entry.contents }
+        ensures appended { Appends self.entry.at_start (W.contents result.now) self.entry.bytes }
     {
         let RecordingWriter { to, .. } = self;
         to
@@ -78,7 +86,7 @@ impl<'a, W: Write> RecordingWriter<'a, W> {
 impl<'a, W: Write> Write for RecordingWriter<'a, W> {
     ghost use Rattle.std.specs.Prelude.{Some};
 
-    ghost contents = { λ t. Some t.took };
+    ghost contents = { λ t. Some t.bytes };
 
     /// Writes once to the writer below, from `buf`, and returns the result of that write.
     ///
@@ -88,10 +96,10 @@ impl<'a, W: Write> Write for RecordingWriter<'a, W> {
     /// `ErrorKind::Interrupted` counts as an interruption.
     fn write(&mut self, buf: &[u8]) -> io::Result<usize>
         ensures bound { WritesAtMost result buf.now }
-        ensures bytes { WriteAppends (Some self.old.took) (Some self.new.took) result buf.now }
-        ensures held { WriteAppends self.old.held self.new.held result buf.now }
-        ensures took { Takes self.old self.new result buf.now }
-        ensures lender { self.new.lender ≡ self.old.lender }
+        ensures bytes { WriteAppends (Some self.old.bytes) (Some self.new.bytes) result buf.now }
+        ensures contents { WriteAppends self.old.contents self.new.contents result buf.now }
+        ensures recorded { RecordsWrite self.old self.new result buf.now }
+        ensures same { IsSameWriter self.old self.new }
     {
         match self.to.write(buf) {
             Ok(count) => {
@@ -111,13 +119,19 @@ impl<'a, W: Write> Write for RecordingWriter<'a, W> {
     ///
     /// Every error is the error of the writer below. The record stays as it is.
     fn flush(&mut self) -> io::Result<()>
-        ensures held { Keeps self.old.held self.new.held }
-        ensures same { (self.new.took ≡ self.old.took) × (self.new.asks ≡ self.old.asks) }
-        ensures vain { self.new.vain ≡ self.old.vain }
-        ensures interruptions { self.new.interruptions ≡ self.old.interruptions }
-        ensures bytes { Keeps (Some self.old.took) (Some self.new.took) }
-        ensures lender { self.new.lender ≡ self.old.lender }
+        ensures contents { Keeps self.old.contents self.new.contents }
+        ensures kept { (self.new.bytes ≡ self.old.bytes) × (self.new.calls ≡ self.old.calls) }
+        ensures bytes { Keeps (Some self.old.bytes) (Some self.new.bytes) }
+        ensures same { IsSameWriter self.old self.new }
     {
         self.to.flush()
+    }
+}
+
+impl<'a, W: Write> Recorder for RecordingWriter<'a, W> {
+    ghost recorded = { λ t. t };
+
+    fn write_once(&mut self, buf: &[u8]) -> io::Result<usize> {
+        self.write(buf)
     }
 }

@@ -14,9 +14,7 @@ use Rattle.council_core.specs.Sheets.{Chair}
 use Rattle.council_core.specs.Coalitions.{subsets, has_chair, omega_of, omega_with, eta_of, threshold_rule}
 use Rattle.half_sums.specs.declared.entry.Entry.{Entry}
 use Rattle.half_sums.specs.Entries.{AreSubsets}
-use Rattle.half_sums.proofs.SetSums.{subsets_avoid, or_left, or_right}
-use Rattle.half_sums.proofs.SubsetFacts.{length_of_half, chairs_within_slots}
-use Rattle.half_sums.proofs.MaskLemmas.{first_apart, of_others}
+use Rattle.half_sums.proofs.Face.{chairs_within_slots, first_apart, length_of_half, of_others, or_left, or_right, subsets_avoid}
 use Rattle.swing_walk.specs.Pairs.{large_pairs, large_with, reaches, is_large, swings_of}
 use Rattle.swing_walk.specs.Laws.{board_of, CoalitionLaw, AreHalf, TwoHalvesLaw, PairsAreCoalitions}
 use Rattle.swing_walk.proofs.Counting.{count_none, pairs_bound}

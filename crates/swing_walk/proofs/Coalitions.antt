@@ -11,7 +11,7 @@ use Rattle.council_core.specs.Sheets.{weight_of}
 use Rattle.council_core.specs.Coalitions.{subsets, has_chair, IsRule, threshold_rule}
 use Rattle.swing_walk.specs.Laws.{SwingLaw, CountLaw, BoundLaw}
 use Rattle.swing_walk.specs.Pairs.{swings_of}
-use Rattle.half_sums.proofs.SetSums.{sum_agree, sum_agree_on, sum_zero, over, over-cons, subsets_avoid}
+use Rattle.half_sums.proofs.Face.{over, over-cons, subsets_avoid, sum_agree, sum_agree_on, sum_zero}
 
 sum_add : {X : Type 0} (f g : X → ℕ) (xs : List X) → sum_by (λ x. f x + g x) xs ≡ sum_by f xs + sum_by g xs
 sum_add f g [] = refl

@@ -1,13 +1,14 @@
-pub mod Counting
-pub mod Coalitions
-pub mod PairLaws
-pub mod BoardSets
-pub mod Weights
-pub mod Steps
-pub mod Meeting
-pub mod SizeLemmas
-pub mod LargePairs
+mod Counting
+mod Coalitions
+mod PairLaws
+mod BoardSets
+mod Weights
+mod Steps
+mod Meeting
+mod SizeLemmas
+mod LargePairs
 mod WalkCases
-pub mod WorkedCases
+mod WorkedCases
 mod LimitCases
-pub mod Routes
+mod Routes
+pub mod Face

@@ -15,8 +15,7 @@ use Rattle.half_sums.specs.Entries.{entry_of, AreSubsets}
 use Rattle.half_sums.specs.Groups.{size_of}
 use Rattle.swing_walk.specs.Pairs.{pairs_where, reaches, has_slot, has_place, is_large}
 use Rattle.swing_walk.specs.Laws.{board_of, PairLaw}
-use Rattle.half_sums.proofs.SetSums.{sum_by-map, sum_agree, sum_agree_on, over, over-cons, subsets_avoid}
-use Rattle.half_sums.proofs.MaskLemmas.{mask_has, sets_sized}
+use Rattle.half_sums.proofs.Face.{mask_has, over, over-cons, sets_sized, subsets_avoid, sum_agree, sum_agree_on, sum_by-map}
 use Rattle.swing_walk.proofs.Coalitions.{over-append}
 use Rattle.half_sums.specs.declared.groups.TheConstants.{SLOTS}
 

@@ -9,7 +9,7 @@ use Rattle.std.proofs.lemmas.List.Sums.{sum_by-cons, sum_by_more, sum_by-drop_mo
 use Rattle.half_sums.specs.declared.entry.Entry.{Entry}
 use Rattle.half_sums.specs.Groups.{size_of, fewer_than}
 use Rattle.half_sums.specs.Entries.{entry_at}
-use Rattle.half_sums.proofs.GroupFacts.{sizes_few}
+use Rattle.half_sums.proofs.Face.{sizes_few}
 use Rattle.swing_walk.specs.Sizes.{partners_next, partners_of, at_least, one_at, tally_of_size, CountsBySize}
 use Rattle.swing_walk.specs.Sides.{size_side}
 use Rattle.swing_walk.specs.Walks.{IsPassed, position_after}

@@ -7,7 +7,7 @@ use Rattle.std.proofs.lemmas.List.Sums.{sum_by-cons, sum_by-take-drop}
 use Rattle.half_sums.specs.declared.entry.Entry.{Entry}
 use Rattle.swing_walk.specs.Pairs.{pairs_where, reaches}
 use Rattle.swing_walk.proofs.Counting.{count_agree, pairs_room}
-use Rattle.half_sums.proofs.SetSums.{sum_agree}
+use Rattle.half_sums.proofs.Face.{sum_agree}
 use Rattle.half_sums.specs.declared.lists.TheConstants.{ROOM}
 
 pairs_none : (test : Entry → Entry → Bool) (xs : List Entry) → pairs_where test xs [] ≡ 0

@@ -1,9 +1,9 @@
 -- One run of the sequential register over the effects of a list of events.
-use Rattle.std.proofs.Common.{◌≡◌, List, [], ◌∷◌, ◌++◌, refl, ap, ◌∙◌}
-use Rattle.council_core.specs.Sequential.{Sequential, Call, Reply, response_to, replies_of, state_after}
-use Rattle.two_copy_steps.specs.declared.events.Event.{Event}
-use Rattle.two_copy_steps.specs.Transitions.{MachineState, transition}
-use Rattle.two_copy_steps.specs.Effects.{SequentialRun, sequential_step, sequential_steps, effect, effects, sequential_replies}
+use Rattle.two_copy_steps.proofs.Names.{[], ap, effects, Event, List, MachineState, refl, replies_of, Reply}
+use Rattle.two_copy_steps.proofs.Names.{response_to, Sequential, sequential_step, SequentialRun, state_after}
+use Rattle.two_copy_steps.proofs.Names.{transition, ◌++◌, ◌∙◌, ◌∷◌, ◌≡◌}
+use Rattle.council_core.specs.Sequential.{Call}
+use Rattle.two_copy_steps.specs.Effects.{sequential_steps, effect, sequential_replies}
 
 -- calls after calls
 state_after-append : (s : Sequential) (calls more : List Call) → state_after s (calls ++ more) ≡ state_after (state_after s calls) more

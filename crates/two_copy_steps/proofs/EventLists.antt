@@ -1,16 +1,13 @@
 -- Over every list of events.
-use Rattle.std.proofs.Common.{◌≡◌, ℕ, suc, get_or, ◌+◌, ◌<◌, ◌≤◌, List, [], ◌∷◌, ◌++◌, length, take, refl, sym, ap, ◌∙◌, subst, arith, length-append}
+use Rattle.two_copy_steps.proofs.Names.{[], ap, AreLegalRecords, arith, Auxiliary, auxiliary_after, auxiliary_start}
+use Rattle.two_copy_steps.proofs.Names.{auxiliary_step, auxiliary_steps, Command, Event, get_or, IsApart}
+use Rattle.two_copy_steps.proofs.Names.{IsLawfulMachine, Ledger, length, length-append, List, machine_after}
+use Rattle.two_copy_steps.proofs.Names.{machine_at_start, MachineState, Note, notes, refl, sequential_start}
+use Rattle.two_copy_steps.proofs.Names.{sequential_step, SequentialRun, state_after_events, state_of, subst, suc, sym}
+use Rattle.two_copy_steps.proofs.Names.{take, transition, ℕ, ◌++◌, ◌+◌, ◌<◌, ◌∙◌, ◌∷◌, ◌≡◌, ◌≤◌}
 use Rattle.std.proofs.Math.Seq.{take-suc}
-use Rattle.council_core.specs.declared.commands.Command.{Command}
-use Rattle.council_core.specs.Ledgers.{Ledger}
-use Rattle.council_core.specs.Sequential.{AreLegalRecords}
-use Rattle.two_copy_steps.specs.declared.events.Event.{Event}
-use Rattle.two_copy_steps.specs.declared.events.Note.{Note}
-use Rattle.two_copy_steps.specs.Transitions.{MachineState, transition, machine_at_start, state_after_events, notes}
-use Rattle.two_copy_steps.specs.Auxiliary.{Auxiliary, auxiliary_start, auxiliary_step, auxiliary_steps, state_of, IsApart, IsLawfulMachine}
 use Rattle.two_copy_steps.specs.Laws.{RecordsLaw}
-use Rattle.two_copy_steps.specs.Runs.{machine_after, auxiliary_after}
-use Rattle.two_copy_steps.specs.Effects.{SequentialRun, sequential_start, sequential_step, AllAnswer}
+use Rattle.two_copy_steps.specs.Effects.{AllAnswer}
 use Rattle.two_copy_steps.proofs.TransitionSteps.{transition_keeps, records_viewed, stages_viewed}
 use Rattle.two_copy_steps.proofs.StateFacts.{all_records, published_legal, stores_apart}
 use Rattle.two_copy_steps.proofs.Replies.{Agrees, event_agrees}

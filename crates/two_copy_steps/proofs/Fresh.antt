@@ -1,51 +1,46 @@
 -- A reader at rest reads nothing older than what is published by then.
-use Rattle.std.proofs.Common.{◌≡◌, ◌≢◌, ⊎_elim, ℕ, zero, suc, eqb, ◌≤◌, Bool, true, false, cond, List, [], ◌∷◌, ◌++◌, length, get_or, take, Option, None, Some, slice_get, refl, sym, ap, ◌∙◌, subst, arith, length-append, length-take, le_trans, le_refl, eq-eqb, ne_eqb}
-use Rattle.std.proofs.lemmas.Option.{same_Some}
-use Rattle.council_core.specs.declared.commands.Command.{Command}
-use Rattle.council_core.specs.Rolls.{sheet}
-use Rattle.council_core.specs.Ledgers.{Ledger, verdict_of}
-use Rattle.council_core.specs.Sheets.{front_of}
-use Rattle.council_core.specs.Sequential.{Sequential, Reply, reading, response_to}
+use Rattle.two_copy_steps.proofs.Names.{[], ap, arith, Arrived, AtRest, Auxiliary, auxiliary_start, auxiliary_step}
+use Rattle.two_copy_steps.proofs.Names.{auxiliary_steps, Bool, Command, cond, COPY_WORDS, eq-eqb, eqb, Event, false}
+use Rattle.two_copy_steps.proofs.Names.{Filling, first_false, front_of, get_or, Idle, is_idle, is_pending}
+use Rattle.two_copy_steps.proofs.Names.{IsLawfulMachine, le_trans, Leaving, Ledger, length, length-append, length-take}
+use Rattle.two_copy_steps.proofs.Names.{List, machine_and_note, machine_at_start, MachineState, ne_eqb, None, Note}
+use Rattle.two_copy_steps.proofs.Names.{Option, Phase, phase_action, Publish, published_by, Read, Reader}
+use Rattle.two_copy_steps.proofs.Names.{reader_transition, Reading, reading, refl, replied_at, Reply, response_to}
+use Rattle.two_copy_steps.proofs.Names.{same_Some, Seeing, Sequential, sequential_start, sequential_step, SequentialRun}
+use Rattle.two_copy_steps.proofs.Names.{sheet, Skipped, slice_get, Some, Stage, stage_action, state_after_events}
+use Rattle.two_copy_steps.proofs.Names.{Submit, subst, suc, Swapping, sym, take, transition, true, verdict_of, Writer}
+use Rattle.two_copy_steps.proofs.Names.{zero, ℕ, ⊎_elim, ◌++◌, ◌∙◌, ◌∷◌, ◌≡◌, ◌≢◌, ◌≤◌}
+use Rattle.std.proofs.Common.{le_refl}
 use Rattle.council_core.specs.Sequential as sequential
-use Rattle.two_copy_steps.specs.declared.events.Event.{Event}
-use Rattle.two_copy_steps.specs.declared.events.Event.TheVariants.{Submit, Publish, Writer, Reader}
-use Rattle.two_copy_steps.specs.declared.events.Note.TheVariants.{Read, Skipped}
-use Rattle.two_copy_steps.specs.declared.views.Stage.{Stage}
-use Rattle.two_copy_steps.specs.declared.views.Stage.TheVariants.{AtRest, Arrived, Reading, Leaving}
-use Rattle.two_copy_steps.specs.declared.views.Phase.{Phase}
-use Rattle.two_copy_steps.specs.declared.views.Phase.TheVariants.{Idle, Seeing, Filling, Swapping}
-use Rattle.two_copy_steps.specs.declared.table.TheConstants.{COPY_WORDS}
-use Rattle.two_copy_steps.specs.Actions.{stage_action, phase_action, first_false}
-use Rattle.two_copy_steps.specs.Transitions.{MachineState, transition, machine_and_note, published_by, is_pending, is_idle, reader_transition, machine_at_start, state_after_events}
-use Rattle.two_copy_steps.specs.Auxiliary.{Auxiliary, auxiliary_start, auxiliary_step, auxiliary_steps, IsLawfulMachine}
-use Rattle.two_copy_steps.specs.Effects.{SequentialRun, sequential_start, replied_at, replied_to, sequential_step}
+use Rattle.two_copy_steps.specs.Effects.{replied_to}
 use Rattle.two_copy_steps.proofs.Lists.{at_set}
 use Rattle.two_copy_steps.proofs.Journals.{IsAccepted}
 use Rattle.two_copy_steps.proofs.EventLists.{Together, together_on, together_after, start_together, after_append}
 use Rattle.two_copy_steps.proofs.TransitionSteps.{looked_taken}
+use Rattle.two_copy_steps.proofs.Outcomes.{Outcome, outcome, skipped, accepted, refused, current, began, wrote, stepped}
 
 -- what is published never gets shorter
-published_grows : (m : MachineState) (aux : Auxiliary) → IsLawfulMachine IsAccepted m aux → (event : Event) → length m.writer.published ≤ length (transition m event).0.writer.published
-published_grows m aux l (Submit command) =
-    elim (is_idle m.writer.phase) as (λ b. length m.writer.published ≤ length (cond b (machine_and_note m command (verdict_of m.ledger command)) (m, Skipped)).0.writer.published) [ true ↦ omega arith | false ↦ omega arith ]
-published_grows m aux l Publish =
-    elim (is_idle m.writer.phase) as (λ b. length m.writer.published ≤ length (cond b (published_by m (is_pending m)) (m, Skipped)).0.writer.published) [
-      | true ↦ elim (is_pending m) as (λ c. length m.writer.published ≤ length (published_by m c).0.writer.published) [ true ↦ omega arith | false ↦ omega arith ]
-      | false ↦ omega arith
-    ]
-published_grows m aux l Writer = by_phase m.writer.phase
-  where
-    by_phase : (phase : Phase) → length m.writer.published ≤ length ((phase_action (sheet m.ledger.opening) m.writer phase).after (get_or m.words (phase_action (sheet m.ledger.opening) m.writer phase).word 0)).published
-    by_phase Idle = omega arith
-    by_phase Seeing =
-        let r : ℕ = first_false m.writer.seen_out in
-        let same = ap (length {A = Command}) (looked_taken m.writer r (eqb (get_or m.words (phase_action (sheet m.ledger.opening) m.writer Seeing).word 0) 0)).0 in
-        omega arith
-    by_phase (Filling k) = omega arith
-    by_phase Swapping = let b = l.state.writer.begins in let longer = ap (length {A = Command}) b.1 in omega (arith, length-append m.writer.published b.0)
-published_grows m aux l (Reader zero) = omega arith
-published_grows m aux l (Reader (suc r)) =
-    elim (slice_get m.readers r) as (λ o. length m.writer.published ≤ length (reader_transition m r o).0.writer.published) [ None ↦ omega arith | Some stage ↦ omega arith ]
+module _ (m : MachineState) (aux : Auxiliary) (l : IsLawfulMachine IsAccepted m aux) where
+  by_phase : (phase : Phase) → length m.writer.published ≤ length ((phase_action (sheet m.ledger.opening) m.writer phase).after (get_or m.words (phase_action (sheet m.ledger.opening) m.writer phase).word 0)).published
+  by_phase Idle = omega arith
+  by_phase Seeing =
+      let r : ℕ = first_false m.writer.seen_out in
+      let same = ap (length {A = Command}) (looked_taken m.writer r (eqb (get_or m.words (phase_action (sheet m.ledger.opening) m.writer Seeing).word 0) 0)).0 in
+      omega arith
+  by_phase (Filling k) = omega arith
+  by_phase Swapping = let b = l.state.writer.begins in let longer = ap (length {A = Command}) b.1 in omega (arith, length-append m.writer.published b.0)
+
+  grows : {next : MachineState} {after : Auxiliary} {event : Event} {note : Note} → Outcome m aux event next after note → length m.writer.published ≤ length next.writer.published
+  grows wrote = by_phase m.writer.phase
+  grows (stepped r stage at) = omega arith
+  grows (skipped event) = omega arith
+  grows (accepted command ok) = omega arith
+  grows (refused command why) = omega arith
+  grows current = omega arith
+  grows (began pending) = omega arith
+
+  published_grows : (event : Event) → length m.writer.published ≤ length (transition m event).0.writer.published
+  published_grows event = grows (outcome m aux event)
 
 -- a reader that is reading was replied no older sheet
 abbrev FreshAt : ℕ → Option Reply → Stage → Type 0

@@ -1,26 +1,18 @@
 -- Instances of the laws at worked examples, which meet their premises; and causes and publications
 -- that the definitions exclude.
-use Rattle.std.proofs.Common.{◌≡◌, ◌≤◌, ℕ, ◌++◌, replicate, true, false, List, [], ◌∷◌, slice_get, ⊎_elim, Some, Ok, refl, sym, arith, true≢false, suc, take}
-use Rattle.council_core.specs.Ledgers.{IsLedger, verdict_of}
-use Rattle.council_core.specs.Sequential.{AreLegalRecords}
-use Rattle.council_core.specs.Sheets.{front_of}
-use Rattle.council_core.specs.declared.commands.Command.TheVariants.{Open, Close, Move, SetVotes}
+use Rattle.two_copy_steps.proofs.Names.{[], AreLegalRecords, arith, Arrived, AtRest, Auxiliary, auxiliary_after, Close}
+use Rattle.two_copy_steps.proofs.Names.{Event, false, Filling, front_of, FrontsNeverFall, IsApart, IsLawfulMachine}
+use Rattle.two_copy_steps.proofs.Names.{IsLeastUnseen, IsLedger, IsPublishable, List, machine_after, machine_at_start}
+use Rattle.two_copy_steps.proofs.Names.{MachineState, notes, Ok, Open, Publish, Reader, reader_action, Reading, refl}
+use Rattle.two_copy_steps.proofs.Names.{replicate, SetVotes, side_held, slice_get, Some, Stage, stage_action}
+use Rattle.two_copy_steps.proofs.Names.{steps_taken, Submit, suc, sym, take, transition, true, true≢false, verdict_of}
+use Rattle.two_copy_steps.proofs.Names.{Writer, ℕ, ⊎_elim, ◌++◌, ◌∷◌, ◌≡◌, ◌≤◌}
+use Rattle.council_core.specs.declared.commands.Command.TheVariants.{Move}
 use Rattle.council_core.specs.declared.refusals.Refusal.TheVariants.{BadLimit, OutOfMemory}
-use Rattle.two_copy_steps.specs.declared.events.Event.{Event}
-use Rattle.two_copy_steps.specs.declared.events.Event.TheVariants.{Submit, Publish, Writer, Reader}
-use Rattle.two_copy_steps.specs.declared.views.Stage.{Stage}
-use Rattle.two_copy_steps.specs.declared.views.Stage.TheVariants.{AtRest, Arrived, Reading}
-use Rattle.two_copy_steps.specs.declared.views.Phase.TheVariants.{Filling}
-use Rattle.two_copy_steps.specs.Lawful.{IsPublishable}
 use Rattle.two_copy_steps.specs.Laws.{AtOnceLaw, BusyLaw, StepCountLaw, FreshLaw, GrowthLaw, NeverOlderLaw, RangeLaw, RecordsLaw, RepliesLaw, StayLaw, UnderLaw}
-use Rattle.two_copy_steps.specs.Auxiliary.{Auxiliary, IsApart, IsLawfulMachine, side_held}
-use Rattle.two_copy_steps.specs.Actions.{reader_action, stage_action}
-use Rattle.two_copy_steps.specs.Records.{FrontsNeverFall}
-use Rattle.two_copy_steps.specs.Stages.{steps_taken}
 use Rattle.two_copy_steps.specs.Machines.{IsFew, WantsMemory}
-use Rattle.two_copy_steps.specs.Publications.{IsLeastUnseen, StaySeen}
-use Rattle.two_copy_steps.specs.Runs.{HasCause, IsFault, KeepsRecordsLegal, ReportsReplies, StoresUnderNobody, auxiliary_after, machine_after}
-use Rattle.two_copy_steps.specs.Transitions.{MachineState, notes, machine_at_start, transition}
+use Rattle.two_copy_steps.specs.Publications.{StaySeen}
+use Rattle.two_copy_steps.specs.Runs.{HasCause, IsFault, KeepsRecordsLegal, ReportsReplies, StoresUnderNobody}
 use Rattle.two_copy_steps.proofs.WorkedCases.{code, filling_under, first_sheet, hands_three_votes, blocking, last_sheet, one_member, votes_in_range}
 
 -- an accepted command can want memory; a refused one, one that comes while a publication is under way, and every other

@@ -1,31 +1,22 @@
 -- States of words and views that are not lawful, each for one reason; and what the laws of steps say in worked examples.
-use Rattle.std.proofs.Common.{◌≡◌, ◌≤◌, ◌^◌, ◌++◌, ℕ, suc, Bool, true, false, List, [], ◌∷◌, length, map, replicate, Some, refl, sym, subst, slice_get, slice_index, take, arith, true≢false}
-use Rattle.council_core.specs.declared.commands.Command.{Command}
-use Rattle.council_core.specs.declared.commands.Command.TheVariants.{Open, Close, SetVotes}
-use Rattle.council_core.specs.Ledgers.{IsLedger}
-use Rattle.council_core.specs.Rolls.{sheet}
-use Rattle.council_core.specs.Sequential.{replies_of, state_after}
-use Rattle.two_copy_steps.specs.Actions.{pin, reader_action}
-use Rattle.two_copy_steps.specs.Auxiliary.{Auxiliary, IsApart, IsLawfulMachine, auxiliary_start, auxiliary_step, record_at, state_of}
-use Rattle.two_copy_steps.specs.Effects.{AnswersEvent, effects, sequential_replies, sequential_start, sequential_steps}
-use Rattle.two_copy_steps.specs.Laws.{AfterLaw, BeginLaw, BeginTransitionLaw, BusyLaw, EffectsLaw, EventLaw, GrowthLaw, HasVotesInRange, IdleTransitionLaw, LedgerLaw, NotesLaw, OutputsLaw, RangeLaw, ReaderLaw, ReaderTransitionLaw, StartLaw, StateKnownLaw, StateUnderLaw, StepCountLaw, SubmitTransitionLaw, WriterLaw, WriterTransitionLaw}
-use Rattle.two_copy_steps.specs.Lawful.{Fills, IsPublishable, ShowsSheet, State, Stored, begun_by, read_by, written_by}
-use Rattle.two_copy_steps.specs.Records.{sheets_reported}
-use Rattle.two_copy_steps.specs.Runs.{WantsMemoryFrom, auxiliary_after, machine_after}
-use Rattle.two_copy_steps.specs.Machines.{IsMachine, WantsMemory}
-use Rattle.two_copy_steps.specs.Publications.{IsLeastUnseen}
-use Rattle.two_copy_steps.specs.Stages.{about_to_leave, sheet_read, steps_taken}
+use Rattle.two_copy_steps.proofs.Names.{[], about_to_leave, arith, Arrived, AtRest, Auxiliary, auxiliary_after}
+use Rattle.two_copy_steps.proofs.Names.{auxiliary_start, auxiliary_step, Began, Bool, Close, Command, effects, Event}
+use Rattle.two_copy_steps.proofs.Names.{false, Filling, Fills, HasVotesInRange, Idle, IsApart, IsLawfulMachine}
+use Rattle.two_copy_steps.proofs.Names.{IsLeastUnseen, IsLedger, IsMachine, IsPublishable, Leaving, length, List}
+use Rattle.two_copy_steps.proofs.Names.{machine_after, machine_at_start, MachineState, map, notes, Open, Phase, pin}
+use Rattle.two_copy_steps.proofs.Names.{Publish, read_by, Reader, reader_action, ReaderView, Reading, record_at, refl}
+use Rattle.two_copy_steps.proofs.Names.{replicate, replies_of, Seeing, sequential_start, SetVotes, sheet, sheet_read}
+use Rattle.two_copy_steps.proofs.Names.{sheets_reported, ShowsSheet, slice_get, Some, Stage, State, state_after}
+use Rattle.two_copy_steps.proofs.Names.{state_after_events, state_of, steps_taken, Submit, subst, suc, Swapping, sym}
+use Rattle.two_copy_steps.proofs.Names.{take, transition, true, true≢false, Writer, Writing, ℕ, ◌++◌, ◌^◌, ◌∷◌, ◌≡◌}
+use Rattle.two_copy_steps.proofs.Names.{◌≤◌}
+use Rattle.std.proofs.Common.{slice_index}
+use Rattle.two_copy_steps.specs.Effects.{AnswersEvent, sequential_replies, sequential_steps}
+use Rattle.two_copy_steps.specs.Laws.{AfterLaw, BeginLaw, BeginTransitionLaw, BusyLaw, EffectsLaw, EventLaw, GrowthLaw, IdleTransitionLaw, LedgerLaw, NotesLaw, OutputsLaw, RangeLaw, ReaderLaw, ReaderTransitionLaw, StartLaw, StateKnownLaw, StateUnderLaw, StepCountLaw, SubmitTransitionLaw, WriterLaw, WriterTransitionLaw}
+use Rattle.two_copy_steps.specs.Lawful.{Stored, begun_by, written_by}
+use Rattle.two_copy_steps.specs.Runs.{WantsMemoryFrom}
+use Rattle.two_copy_steps.specs.Machines.{WantsMemory}
 use Rattle.two_copy_steps.specs.States.{IsKnown, IsLawfulBoard}
-use Rattle.two_copy_steps.specs.Transitions.{MachineState, machine_at_start, notes, state_after_events, transition}
-use Rattle.two_copy_steps.specs.declared.events.Event.{Event}
-use Rattle.two_copy_steps.specs.declared.events.Event.TheVariants.{Submit, Publish, Writer, Reader}
-use Rattle.two_copy_steps.specs.declared.events.Note.TheVariants.{Began}
-use Rattle.two_copy_steps.specs.declared.views.ReaderView.{ReaderView}
-use Rattle.two_copy_steps.specs.declared.views.Writing.{Writing}
-use Rattle.two_copy_steps.specs.declared.views.Stage.{Stage}
-use Rattle.two_copy_steps.specs.declared.views.Stage.TheVariants.{AtRest, Arrived, Reading, Leaving}
-use Rattle.two_copy_steps.specs.declared.views.Phase.{Phase}
-use Rattle.two_copy_steps.specs.declared.views.Phase.TheVariants.{Idle, Seeing, Filling, Swapping}
 use Rattle.two_copy_steps.proofs.LawCases.{held_up, ledger}
 use Rattle.two_copy_steps.proofs.WorkedCases.{blocking, code, first_sheet, hands_three_votes, one_member, votes_in_range}
 

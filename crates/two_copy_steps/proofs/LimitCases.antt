@@ -1,29 +1,26 @@
 -- Words, steps and readers at their limits and one beside them, computed; and what the definitions of runs and machines
 -- exclude.
-use Rattle.std.proofs.Common.{◌≡◌, ◌≤◌, ◌+◌, ◌^◌, ◌++◌, ℕ, true, false, [], ◌∷◌, replicate, Some, None, refl, sym, ap, arith, true≢false}
-use Rattle.council_core.specs.Ledgers.{Ledger}
-use Rattle.council_core.specs.Sequential.{answered, reading}
+use Rattle.two_copy_steps.proofs.Names.{[], about_to_leave, Accepted, all_true, ap, arith, Arrived, AtRest, Began, Busy}
+use Rattle.two_copy_steps.proofs.Names.{Close, copy_word, cuts_past, false, Filling, first_false, FrontsNeverFall}
+use Rattle.two_copy_steps.proofs.Names.{HasVotesInRange, Idle, is_idle, is_pending, IsMachine, IsPublishable}
+use Rattle.two_copy_steps.proofs.Names.{IsReadable, Leaving, Ledger, machine_at_start, Moved, None, Open, other_side}
+use Rattle.two_copy_steps.proofs.Names.{pin, pin_of, Publish, Published, Read, Reader, Reading, reading, readings_after}
+use Rattle.two_copy_steps.proofs.Names.{refl, Refusal, Refused, replicate, Seeing, SequentialRun, sheet_read}
+use Rattle.two_copy_steps.proofs.Names.{sheets_reported, Skipped, Some, stage_with_words, Submit, Swapping, sym}
+use Rattle.two_copy_steps.proofs.Names.{transition, true, true≢false, Writer, ℕ, ◌++◌, ◌+◌, ◌^◌, ◌∷◌, ◌≡◌, ◌≤◌}
+use Rattle.council_core.specs.Sequential.{answered}
 use Rattle.council_core.specs.declared.calls.Answer.TheVariants as answer
-use Rattle.council_core.specs.declared.commands.Command.TheVariants.{Open, Close}
-use Rattle.council_core.specs.declared.refusals.Refusal.{Refusal}
 use Rattle.council_core.specs.declared.refusals.Refusal.TheVariants.{BadLimit}
-use Rattle.two_copy_steps.specs.Actions.{all_true, cuts_past, filling_phase, first_false, other_side, pin, copy_word, readings_after, seeing_phase, stage_with_words}
-use Rattle.two_copy_steps.specs.Effects.{AllAnswer, OutputIsReply, SequentialRun, SwapsOnce}
-use Rattle.two_copy_steps.specs.Laws.{HasVotesInRange}
-use Rattle.two_copy_steps.specs.Lawful.{IsPrefix, IsPublishable, last_front, pin_of}
-use Rattle.two_copy_steps.specs.Machines.{IsFew, IsMachine}
+use Rattle.two_copy_steps.specs.Actions.{filling_phase, seeing_phase}
+use Rattle.two_copy_steps.specs.Effects.{AllAnswer, OutputIsReply, SwapsOnce}
+use Rattle.two_copy_steps.specs.Lawful.{IsPrefix, last_front}
+use Rattle.two_copy_steps.specs.Machines.{IsFew}
 use Rattle.two_copy_steps.specs.Publications.{seen_out_at}
-use Rattle.two_copy_steps.specs.Records.{FrontsNeverFall, sheets_reported}
 use Rattle.two_copy_steps.specs.Runs.{IsFault}
-use Rattle.two_copy_steps.specs.Stages.{IsReadable, about_to_leave, accessed_word, last_load, last_step, left_by, reading_steps, sheet_read, stage_of}
+use Rattle.two_copy_steps.specs.Stages.{accessed_word, last_load, last_step, left_by, reading_steps, stage_of}
 use Rattle.two_copy_steps.specs.States.{EndsWith}
-use Rattle.two_copy_steps.specs.Transitions.{is_idle, is_pending, machine_at_start, transition}
-use Rattle.two_copy_steps.specs.declared.events.Event.TheVariants.{Submit, Publish, Writer, Reader}
-use Rattle.two_copy_steps.specs.declared.events.Note.TheVariants.{Accepted, Began, Busy, Moved, Published, Read, Refused, Skipped}
 use Rattle.two_copy_steps.specs.declared.stages.Access.TheVariants.{Load, Store}
 use Rattle.two_copy_steps.specs.declared.stages.ReaderPc.TheVariants as pc
-use Rattle.two_copy_steps.specs.declared.views.Stage.TheVariants.{AtRest, Arrived, Reading, Leaving}
-use Rattle.two_copy_steps.specs.declared.views.Phase.TheVariants.{Idle, Seeing, Filling, Swapping}
 use Rattle.two_copy_steps.proofs.WorkedCases.{first_sheet, last_sheet, one_member}
 
 -- the first and the last word of each copy, and the pins behind them

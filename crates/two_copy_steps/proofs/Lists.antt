@@ -1,6 +1,7 @@
 -- Lists read at an index.
-use Rattle.std.proofs.Common.{◌≡◌, ◌≢◌, ◌⊎◌, ℕ, zero, suc, ◌<◌, List, [], ◌∷◌, length, set, Some, slice_get, refl, ap, inl, inr, ⊎_elim, arith}
-use Rattle.std.proofs.lemmas.Option.{none-some, same_Some}
+use Rattle.two_copy_steps.proofs.Names.{[], ap, arith, inr, length, List, none-some, refl, same_Some, set, slice_get}
+use Rattle.two_copy_steps.proofs.Names.{Some, suc, zero, ℕ, ⊎_elim, ◌<◌, ◌∷◌, ◌≡◌, ◌≢◌, ◌⊎◌}
+use Rattle.std.proofs.Common.{inl}
 
 module _ {A : Type 0} where
   -- after a write at i, the item at j is the one written or the one before

@@ -1,23 +1,18 @@
 -- A reader's step keeps the invariant of the state.
-use Rattle.std.proofs.Common.{◌≡◌, ◌≢◌, ℕ, zero, suc, eqb, ◌+◌, ◌<◌, ◌≤◌, Bool, cond, List, [], ◌∷◌, ◌++◌, length, get_or, take, set, Some, slice_get, Contains, refl, sym, ap, ◌∙◌, subst, ⊎_elim, arith, length-set, length-append, get_or-set_other, get_or-set_same, eq-eqb, ne_eqb}
-use Rattle.std.proofs.lemmas.List.{ext_get_or, get_or_append_left, set-get_or}
+use Rattle.two_copy_steps.proofs.Names.{[], ap, arith, Arrived, AtRest, Bool, Command, cond, Contains, copy_word}
+use Rattle.two_copy_steps.proofs.Names.{COPY_WORDS, dite, eq-eqb, eqb, Filling, Fills, front_of, get_or}
+use Rattle.two_copy_steps.proofs.Names.{get_or-set_other, HoldsCopy, Idle, IsLawfulState, IsRecordFrom, Leaving, length}
+use Rattle.two_copy_steps.proofs.Names.{length-append, length-set, List, ne_eqb, Opening, other_side, Phase, pin}
+use Rattle.two_copy_steps.proofs.Names.{read_by, ReaderOk, ReaderView, Reading, readings_after, refl, Seeing, set}
+use Rattle.two_copy_steps.proofs.Names.{set-get_or, sheet, ShowsSheet, slice_get, Some, Stage, Stands, State, subst}
+use Rattle.two_copy_steps.proofs.Names.{suc, Swapping, sym, take, take-length, WriterOk, zero, ℕ, ℕ_discrete, ⊎_elim}
+use Rattle.two_copy_steps.proofs.Names.{◌++◌, ◌+◌, ◌<◌, ◌∙◌, ◌∷◌, ◌≡◌, ◌≢◌, ◌≤◌}
+use Rattle.std.proofs.Common.{get_or-set_same}
+use Rattle.std.proofs.lemmas.List.{ext_get_or, get_or_append_left}
 use Rattle.std.proofs.lemmas.List.Elements.{Contains-push}
-use Rattle.std.proofs.Math.Seq.{get_or-append_seam, take-length}
-use mathlib.Core.Logic.{dite}
-use native.Mathlib.Decide.{ℕ_discrete}
-use Rattle.council_core.specs.declared.commands.Command.{Command}
-use Rattle.council_core.specs.Rolls.{Opening, sheet}
-use Rattle.council_core.specs.Sequential.{IsRecordFrom}
-use Rattle.council_core.specs.Sheets.{front_of}
-use Rattle.two_copy_steps.specs.declared.views.ReaderView.{ReaderView}
+use Rattle.std.proofs.Math.Seq.{get_or-append_seam}
 use Rattle.two_copy_steps.specs.declared.views.WriterView.{WriterView}
-use Rattle.two_copy_steps.specs.declared.views.Stage.{Stage}
-use Rattle.two_copy_steps.specs.declared.views.Stage.TheVariants.{AtRest, Arrived, Reading, Leaving}
-use Rattle.two_copy_steps.specs.declared.views.Phase.{Phase}
-use Rattle.two_copy_steps.specs.declared.views.Phase.TheVariants.{Idle, Seeing, Filling, Swapping}
-use Rattle.two_copy_steps.specs.declared.table.TheConstants.{COPY_WORDS}
-use Rattle.two_copy_steps.specs.Actions.{copy_word, pin, other_side, readings_after}
-use Rattle.two_copy_steps.specs.Lawful.{State, read_by, ShowsSheet, IsLoadedFrom, HoldsCopy, Stands, ReaderOk, Fills, WriterOk, IsLawfulState}
+use Rattle.two_copy_steps.specs.Lawful.{IsLoadedFrom}
 use Rattle.two_copy_steps.proofs.Lists.{at_set, inside}
 use Rattle.two_copy_steps.proofs.Records.{sheet_long, front_of_cut, last_front-push, record-push, record-below}
 

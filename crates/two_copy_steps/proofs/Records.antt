@@ -1,13 +1,12 @@
 -- Legal records and cuts, with one more at the end.
-use Rattle.std.proofs.Common.{◌≡◌, ℕ, ◌-◌, ◌≤◌, List, [], ◌∷◌, ◌++◌, length, take, get_or, Contains, refl, sym, ap, ◌∙◌, arith, length-take}
+use Rattle.two_copy_steps.proofs.Names.{[], ap, arith, Command, Contains, COPY_WORDS, front_of, get_or, IsRecordFrom}
+use Rattle.two_copy_steps.proofs.Names.{length, length-take, List, Opening, refl, sheet, sym, take, ℕ, ◌++◌, ◌∙◌, ◌∷◌}
+use Rattle.two_copy_steps.proofs.Names.{◌≡◌, ◌≤◌}
+use Rattle.std.proofs.Common.{◌-◌}
 use Rattle.std.proofs.lemmas.List.Elements.{Contains-get_or}
 use Rattle.std.proofs.lemmas.List.Sorted.{IsNonDecreasingBy-push}
 use Rattle.std.specs.List.Sorted.{IsNonDecreasing}
-use Rattle.council_core.specs.declared.commands.Command.{Command}
-use Rattle.council_core.specs.Rolls.{Opening, sheet}
-use Rattle.council_core.specs.Sequential.{IsCutSheet, IsRecordFrom}
-use Rattle.council_core.specs.Sheets.{front_of}
-use Rattle.two_copy_steps.specs.declared.table.TheConstants.{COPY_WORDS}
+use Rattle.council_core.specs.Sequential.{IsCutSheet}
 use Rattle.two_copy_steps.specs.Lawful.{last_front}
 
 -- the front of a sheet is the number of its commands

@@ -1,32 +1,24 @@
 -- Each output that answers a call is the sequential register's reply.
-use Rattle.std.proofs.Common.{◌≡◌, ◌≢◌, ℕ, zero, suc, eqb, ◌+◌, ◌<◌, ◌≤◌, Bool, true, false, cond, List, [], ◌∷◌, ◌++◌, length, get_or, take, set, Option, None, Some, slice_get, Result, Ok, Err, refl, sym, ap, ◌∙◌, subst, ⊎_elim, arith, length-append, append_assoc, get_or-set_other, eq-eqb, ne_eqb, ltb-false, true≢false}
-use Rattle.std.specs.Prelude.{⊤}
-use Rattle.std.proofs.lemmas.List.{ext_get_or, set-get_or}
+use Rattle.two_copy_steps.proofs.Names.{[], abandoned_writing, after_reader_step, ap, append_assoc, arith, Arrived}
+use Rattle.two_copy_steps.proofs.Names.{AtRest, Auxiliary, Bool, Busy, Command, cond, copy_word, COPY_WORDS, dite}
+use Rattle.two_copy_steps.proofs.Names.{eq-eqb, eqb, Err, Event, false, Filling, Fills, first_false, get_or}
+use Rattle.two_copy_steps.proofs.Names.{get_or-set_other, HoldsCopy, Idle, is_idle, is_pending, IsLawfulMachine}
+use Rattle.two_copy_steps.proofs.Names.{Leaving, length, length-append, List, machine_and_note, MachineState, Moved}
+use Rattle.two_copy_steps.proofs.Names.{ne_eqb, None, Note, Ok, Opening, Option, other_side, Phase, phase_action}
+use Rattle.two_copy_steps.proofs.Names.{phase_note, pin, Publish, published_by, Reader, reader_transition, Reading}
+use Rattle.two_copy_steps.proofs.Names.{reading, record_at, refl, Refusal, replied_at, replies_of, Reply, response_to}
+use Rattle.two_copy_steps.proofs.Names.{Result, Seeing, seen_writing, Sequential, sequential_step, SequentialRun, set}
+use Rattle.two_copy_steps.proofs.Names.{set-get_or, sheet, ShowsSheet, Skipped, slice_get, Some, Stage, stage_note}
+use Rattle.two_copy_steps.proofs.Names.{stage_with_words, Stands, state_after, state_of, Submit, subst, suc, Swapping}
+use Rattle.two_copy_steps.proofs.Names.{sym, take, transition, true, true≢false, verdict_of, Writer, Writing, zero, ℕ}
+use Rattle.two_copy_steps.proofs.Names.{ℕ_discrete, ⊎_elim, ⊤, ◌++◌, ◌+◌, ◌<◌, ◌∙◌, ◌∷◌, ◌≡◌, ◌≢◌, ◌≤◌}
+use Rattle.std.proofs.Common.{ltb-false}
+use Rattle.std.proofs.lemmas.List.{ext_get_or}
 use Rattle.std.proofs.Math.Seq.{take-append_seam}
-use mathlib.Core.Logic.{dite}
-use native.Mathlib.Decide.{ℕ_discrete}
-use Rattle.council_core.specs.declared.commands.Command.{Command}
-use Rattle.council_core.specs.declared.refusals.Refusal.{Refusal}
-use Rattle.council_core.specs.Rolls.{Opening, sheet}
-use Rattle.council_core.specs.Ledgers.{verdict_of}
 use Rattle.council_core.specs.declared.calls.Answer.TheVariants as answer
-use Rattle.council_core.specs.Sequential.{Sequential, Call, submit, publish, Reply, answered, reading, response_to, replies_of, state_after}
+use Rattle.council_core.specs.Sequential.{Call, submit, publish, answered}
 use Rattle.council_core.specs.Sequential as sequential
-use Rattle.two_copy_steps.specs.declared.events.Event.{Event}
-use Rattle.two_copy_steps.specs.declared.events.Event.TheVariants.{Submit, Publish, Writer, Reader}
-use Rattle.two_copy_steps.specs.declared.events.Note.{Note}
-use Rattle.two_copy_steps.specs.declared.events.Note.TheVariants.{Moved, Busy, Skipped}
-use Rattle.two_copy_steps.specs.declared.views.Writing.{Writing}
-use Rattle.two_copy_steps.specs.declared.views.Stage.{Stage}
-use Rattle.two_copy_steps.specs.declared.views.Stage.TheVariants.{AtRest, Arrived, Reading, Leaving}
-use Rattle.two_copy_steps.specs.declared.views.Phase.{Phase}
-use Rattle.two_copy_steps.specs.declared.views.Phase.TheVariants.{Idle, Seeing, Filling, Swapping}
-use Rattle.two_copy_steps.specs.declared.table.TheConstants.{COPY_WORDS}
-use Rattle.two_copy_steps.specs.Actions.{first_false, other_side, pin, copy_word, writing_of_staged, writing_with_quiescent, stage_with_words, phase_action}
-use Rattle.two_copy_steps.specs.Lawful.{ShowsSheet, HoldsCopy, Stands, Fills}
-use Rattle.two_copy_steps.specs.Transitions.{MachineState, transition, machine_and_note, published_by, is_pending, is_idle, after_reader_step, reader_transition, phase_note, stage_note}
-use Rattle.two_copy_steps.specs.Auxiliary.{Auxiliary, record_at, state_of, IsLawfulMachine}
-use Rattle.two_copy_steps.specs.Effects.{phase_effect, stage_effect, reader_effect, SequentialRun, replied_at, replied_to, begun_after, sequential_step, OutputIsReply, SwapsOnce, AnswersEvent}
+use Rattle.two_copy_steps.specs.Effects.{phase_effect, stage_effect, reader_effect, replied_to, begun_after, OutputIsReply, SwapsOnce, AnswersEvent}
 use Rattle.two_copy_steps.proofs.Lists.{at_set}
 use Rattle.two_copy_steps.proofs.Records.{sheet_long}
 use Rattle.two_copy_steps.proofs.ReaderSteps.{Alike, same, pin_set, copy_word_low, read_more}
@@ -41,8 +33,8 @@ sequential_of m = record { ledger = m.ledger; published = length m.writer.publis
 abbrev pub Held : List ℕ → Option Reply → Stage → Type 0
 Held words given AtRest = Unit {0}
 Held words given Arrived = Unit {0}
-Held words given (Reading side stage_with_words) = (numbers : List ℕ) × (given ≡ Some (reading numbers)) × (length numbers ≡ COPY_WORDS) × ShowsSheet words side numbers
-Held words given (Leaving side stage_with_words) = given ≡ Some (reading stage_with_words)
+Held words given (Reading side loaded) = (numbers : List ℕ) × (given ≡ Some (reading numbers)) × (length numbers ≡ COPY_WORDS) × ShowsSheet words side numbers
+Held words given (Leaving side loaded) = given ≡ Some (reading loaded)
 
 abbrev pub AllHeld : List ℕ → (ℕ → Option Reply) → List Stage → Type 0
 AllHeld words replied readers = (r : ℕ) (stage : Stage) → slice_get readers r ≡ Some stage → Held words (replied (suc r)) stage
@@ -70,11 +62,11 @@ module _ (Legal : Opening → List Command → Type 0) where
   -- one reader moves, and the others hold what they held
   all_held : (m : MachineState) (r : ℕ) (stage : Stage) (vs : List ℕ) (replied replied' : ℕ → Option Reply) → AllHeld m.words replied m.readers → Alike r m.words vs
       → ((k : ℕ) → k ≢ suc r → replied' k ≡ replied k) → Held vs (replied' (suc r)) stage → AllHeld vs replied' (set m.readers r stage)
-  all_held m r stage vs replied replied' all alike stays held q other_side at =
-      ⊎_elim (λ (t : (q ≡ r) × (stage ≡ other_side)). subst (λ (z : ℕ × Stage). Held vs (replied' (suc z.0)) z.1) (λ i. (sym t.0 i, t.1 i)) held)
-      (λ (t : (q ≢ r) × (slice_get m.readers q ≡ Some other_side)). let apart = t.0 in
-      subst (λ (z : Option Reply). Held vs z other_side) (sym (stays (suc q) (λ e. apart (omega arith)))) (held_alike r m.words vs alike (replied (suc q)) other_side (all q other_side t.1)))
-      (at_set m.readers r q stage other_side at)
+  all_held m r stage vs replied replied' all alike stays held q other at =
+      ⊎_elim (λ (t : (q ≡ r) × (stage ≡ other)). subst (λ (z : ℕ × Stage). Held vs (replied' (suc z.0)) z.1) (λ i. (sym t.0 i, t.1 i)) held)
+      (λ (t : (q ≢ r) × (slice_get m.readers q ≡ Some other)). let apart = t.0 in
+      subst (λ (z : Option Reply). Held vs z other) (sym (stays (suc q) (λ e. apart (omega arith)))) (held_alike r m.words vs alike (replied (suc q)) other (all q other t.1)))
+      (at_set m.readers r q stage other at)
 
   -- what the sequential register shows is what is published
   is_shown : (m : MachineState) (aux : Auxiliary) → IsLawfulMachine Legal m aux → take (length m.writer.published) m.ledger.journal ≡ m.writer.published
@@ -87,10 +79,10 @@ module _ (Legal : Opening → List Command → Type 0) where
 
   loaded_held : (words : List ℕ) (given : Option Reply) (s : ℕ) (ws numbers : List ℕ) → given ≡ Some (reading numbers) → length numbers ≡ COPY_WORDS → ShowsSheet words s numbers
       → ((i : ℕ) → i < length ws → get_or ws i 0 ≡ get_or words (copy_word s i) 0) → length ws ≤ COPY_WORDS → Held words given (stage_with_words s ws)
-  loaded_held words given s ws numbers is long shows after_reader_step short =
+  loaded_held words given s ws numbers is long shows as_stored short =
       let F : Bool → Type 0 = λ b. Held words given (cond b (Leaving s ws) (Reading s ws)) in
       dite (ℕ_discrete (length ws) COPY_WORDS)
-      (λ e. subst F (sym (eq-eqb (length ws) COPY_WORDS e)) (is ∙ ap (λ (x : List ℕ). Some (reading x)) (sym (ext_get_or 0 ws numbers (e ∙ sym long) (λ i l. after_reader_step i l ∙ shows i (omega arith))))))
+      (λ e. subst F (sym (eq-eqb (length ws) COPY_WORDS e)) (is ∙ ap (λ (x : List ℕ). Some (reading x)) (sym (ext_get_or 0 ws numbers (e ∙ sym long) (λ i l. as_stored i l ∙ shows i (omega arith))))))
       (λ ne. subst F (sym (ne_eqb (length ws) COPY_WORDS ne)) (numbers, is, long, shows))
 
   abbrev ReadGoes : MachineState → Bool → (ℕ → Option Reply) → ℕ → Stage → Type 0
@@ -180,9 +172,9 @@ module _ (Legal : Opening → List Command → Type 0) where
 
   -- where a pin is found at 0 the publication goes on, else it is given up
   looked_begun : (w : Writing) (number : ℕ) (b z : Bool) → b ≡ true
-      → is_idle (cond z (writing_with_quiescent w (set w.seen_out number true)) (record w { phase = Idle })).phase ≡ false → begun_after b (cond z Moved (Busy (suc number))) ≡ true
-  looked_begun w number b true writing_of_staged busy = writing_of_staged
-  looked_begun w number b false writing_of_staged busy = cc
+      → is_idle (cond z (seen_writing w number) (abandoned_writing w)).phase ≡ false → begun_after b (cond z Moved (Busy (suc number))) ≡ true
+  looked_begun w number b true begun busy = begun
+  looked_begun w number b false begun busy = cc
 
   looked_reports : (replied : ℕ → Option Reply) (number : ℕ) (z : Bool) → OutputIsReply [] replied (cond z Moved (Busy number))
   looked_reports replied number true = tt

@@ -1,31 +1,22 @@
 -- Over every list of events a record is the sheets in its reader's outputs.
-use Rattle.std.proofs.Common.{◌≡◌, ◌≢◌, ⊎_elim, ℕ, zero, suc, eqb, ◌<◌, ◌≤◌, Bool, true, false, cond, List, [], ◌∷◌, ◌++◌, length, get_or, set, replicate, Option, None, Some, slice_get, Result, Ok, Err, refl, sym, ap, ◌∙◌, subst, arith, append_assoc, append-nil, length-set, eq-eqb, ne_eqb, take, le_trans}
-use Rattle.std.specs.Prelude.{⊤}
+use Rattle.two_copy_steps.proofs.Names.{[], about_to_leave, after_reader_step, ap, append-nil, append_assoc, arith}
+use Rattle.two_copy_steps.proofs.Names.{Arrived, AtRest, Auxiliary, auxiliary_reader_step, auxiliary_start}
+use Rattle.two_copy_steps.proofs.Names.{auxiliary_step, auxiliary_steps, Bool, Busy, Command, cond, COPY_WORDS, eq-eqb}
+use Rattle.two_copy_steps.proofs.Names.{eqb, Event, false, Filling, front_of, FrontsNeverFall, get_or, Idle}
+use Rattle.two_copy_steps.proofs.Names.{IsRecordFrom, le_trans, Leaving, Ledger, length, length-set, List}
+use Rattle.two_copy_steps.proofs.Names.{machine_at_start, MachineState, Moved, ne_eqb, None, none-some, Note, notes}
+use Rattle.two_copy_steps.proofs.Names.{Opening, Option, Phase, phase_note, Read, Reading, readings_after, record_at}
+use Rattle.two_copy_steps.proofs.Names.{refl, replicate, same_Some, Seeing, set, sheets_reported, slice_get, Some}
+use Rattle.two_copy_steps.proofs.Names.{Stage, stage_action, stage_note, state_after_events, subst, suc, Swapping, sym}
+use Rattle.two_copy_steps.proofs.Names.{take, take-append-le, transition, true, Writing, zero, ℕ, ⊎_elim, ◌++◌, ◌<◌}
+use Rattle.two_copy_steps.proofs.Names.{◌∙◌, ◌∷◌, ◌≡◌, ◌≢◌, ◌≤◌}
 use Rattle.std.specs.List.Sorted.{IsNonDecreasingBy}
-use Rattle.std.proofs.lemmas.List.{take-append-le, take_all}
+use Rattle.std.proofs.lemmas.List.{take_all}
 use Rattle.std.proofs.lemmas.List.Sorted.{IsNonDecreasingBy-from_default, IsNonDecreasingBy-short, IsNonDecreasingBy-take}
-use Rattle.std.proofs.lemmas.Option.{none-some, same_Some}
-use Rattle.council_core.specs.declared.commands.Command.{Command}
-use Rattle.council_core.specs.declared.refusals.Refusal.{Refusal}
-use Rattle.council_core.specs.Ledgers.{Ledger, verdict_of}
-use Rattle.council_core.specs.Rolls.{Opening}
-use Rattle.council_core.specs.Sheets.{front_of}
-use Rattle.council_core.specs.Sequential.{IsRecordFrom, AreRecords}
-use Rattle.two_copy_steps.specs.declared.events.Event.{Event}
-use Rattle.two_copy_steps.specs.declared.events.Event.TheVariants.{Submit, Publish, Writer, Reader}
-use Rattle.two_copy_steps.specs.declared.events.Note.{Note}
-use Rattle.two_copy_steps.specs.declared.events.Note.TheVariants.{Moved, Busy, Read, Skipped}
-use Rattle.two_copy_steps.specs.declared.views.Writing.{Writing}
-use Rattle.two_copy_steps.specs.declared.views.Stage.{Stage}
-use Rattle.two_copy_steps.specs.declared.views.Stage.TheVariants.{AtRest, Arrived, Reading, Leaving}
-use Rattle.two_copy_steps.specs.declared.views.Phase.{Phase}
-use Rattle.two_copy_steps.specs.declared.views.Phase.TheVariants.{Idle, Seeing, Filling, Swapping}
-use Rattle.two_copy_steps.specs.declared.table.TheConstants.{COPY_WORDS}
-use Rattle.two_copy_steps.specs.Actions.{readings_after, readings_with, stage_action}
-use Rattle.two_copy_steps.specs.Stages.{about_to_leave}
-use Rattle.two_copy_steps.specs.Transitions.{MachineState, transition, machine_and_note, published_by, is_pending, is_idle, phase_note, reader_transition, stage_note, machine_at_start, state_after_events, notes}
-use Rattle.two_copy_steps.specs.Auxiliary.{Auxiliary, auxiliary_start, auxiliary_step, auxiliary_steps, auxiliary_reader_step, record_at}
-use Rattle.two_copy_steps.specs.Records.{reported_of, sheets_reported, RecordsAreReported, FrontsNeverFall}
+use Rattle.council_core.specs.Sequential.{AreRecords}
+use Rattle.two_copy_steps.specs.Actions.{readings_with}
+use Rattle.two_copy_steps.specs.Records.{reported_of, RecordsAreReported}
+use Rattle.two_copy_steps.proofs.Outcomes.{Outcome, outcome, no_auxiliary, skipped, accepted, refused, current, began, wrote, stepped}
 use Rattle.two_copy_steps.proofs.Lists.{at_set, inside, there}
 
 -- a record after a write
@@ -72,14 +63,6 @@ After m aux reported note = Reports m aux (λ r. reported r ++ reported_of (suc 
 silent : (m : MachineState) (aux : Auxiliary) (reported : ℕ → List (List ℕ)) → Reports m aux reported → Reports m aux (λ r. reported r ++ [])
 silent m aux reported h r stage at = h r stage at ∙ ap (λ (l : List (List ℕ)). l ++ about_to_leave stage) (sym (append-nil (reported r)))
 
-after_submit : (m : MachineState) (aux : Auxiliary) (reported : ℕ → List (List ℕ)) → Reports m aux reported → (command : Command) (v : Result ⊤ Refusal) → let t = machine_and_note m command v in After t.0 aux reported t.1
-after_submit m aux reported h command (Ok u) = silent m aux reported h
-after_submit m aux reported h command (Err refusal) = silent m aux reported h
-
-after_publish : (m : MachineState) (aux : Auxiliary) (reported : ℕ → List (List ℕ)) → Reports m aux reported → (b : Bool) → let t = published_by m b in After t.0 aux reported t.1
-after_publish m aux reported h true = silent m aux reported h
-after_publish m aux reported h false = silent m aux reported h
-
 quiet_look : (number k : ℕ) (b : Bool) → reported_of number (cond b Moved (Busy k)) ≡ []
 quiet_look number k true = refl
 quiet_look number k false = refl
@@ -90,10 +73,9 @@ quiet_writer w number found Seeing = quiet_look number _ _
 quiet_writer w number found (Filling k) = refl
 quiet_writer w number found Swapping = refl
 
-after_read : (m : MachineState) (aux : Auxiliary) (reported : ℕ → List (List ℕ)) → Reports m aux reported → length aux.records ≡ length m.readers → (r : ℕ) (o : Option Stage) → slice_get m.readers r ≡ o
-    → let t = reader_transition m r o in After t.0 (auxiliary_reader_step m aux r o) reported t.1
-after_read m aux reported h long r None at = silent m aux reported h
-after_read m aux reported h long r (Some stage) at = λ q later there.
+after_read : (m : MachineState) (aux : Auxiliary) (reported : ℕ → List (List ℕ)) → Reports m aux reported → length aux.records ≡ length m.readers → (r : ℕ) (stage : Stage) → slice_get m.readers r ≡ Some stage
+    → After (after_reader_step m r stage) (auxiliary_reader_step m aux r (Some stage)) reported (stage_note (suc r) stage)
+after_read m aux reported h long r stage at = λ q later there.
     let d = stage_action r stage in
     let found : ℕ = get_or m.words d.word 0 in
     let readings : List (List ℕ) = readings_after stage (d.after found) (record_at aux.records r) in
@@ -110,40 +92,39 @@ after_read m aux reported h long r (Some stage) at = λ q later there.
     ∙ ap (λ (l : List (List ℕ)). l ++ about_to_leave later) (sym (append-nil (reported q)) ∙ ap (λ (l : List (List ℕ)). reported q ++ l) (sym (others r (suc q) stage (λ s. e.0 (omega arith)))))))
     (at_set m.readers r q (d.after found) later there)
 
-after_event : (m : MachineState) (aux : Auxiliary) (reported : ℕ → List (List ℕ)) → Reports m aux reported → length aux.records ≡ length m.readers → (event : Event) → After (transition m event).0 (auxiliary_step m aux event) reported (transition m event).1
-after_event m aux reported h long (Submit command) =
-    elim (is_idle m.writer.phase) as (λ b. let t = cond b (machine_and_note m command (verdict_of m.ledger command)) (m, Skipped) in After t.0 aux reported t.1) [ true ↦ after_submit m aux reported h command (verdict_of m.ledger command) | false ↦ silent m aux reported h ]
-after_event m aux reported h long Publish =
-    elim (is_idle m.writer.phase) as (λ b. let t = cond b (published_by m (is_pending m)) (m, Skipped) in After t.0 aux reported t.1) [ true ↦ after_publish m aux reported h (is_pending m) | false ↦ silent m aux reported h ]
-after_event m aux reported h long Writer = λ r stage at.
+after_event : (m : MachineState) (aux : Auxiliary) (reported : ℕ → List (List ℕ)) → Reports m aux reported → length aux.records ≡ length m.readers → {next : MachineState} {after : Auxiliary} {event : Event} {note : Note} → Outcome m aux event next after note
+    → After next after reported note
+after_event m aux reported h long (stepped r stage at) = after_read m aux reported h long r stage at
+after_event m aux reported h long wrote = λ r stage at.
     silent m aux reported h r stage at ∙ ap (λ (l : List (List ℕ)). (reported r ++ l) ++ about_to_leave stage) (sym (quiet_writer m.writer (suc r) _ m.writer.phase))
-after_event m aux reported h long (Reader zero) = silent m aux reported h
-after_event m aux reported h long (Reader (suc r)) = after_read m aux reported h long r (slice_get m.readers r) refl
+after_event m aux reported h long (skipped event) = silent m aux reported h
+after_event m aux reported h long (accepted command ok) = silent m aux reported h
+after_event m aux reported h long (refused command why) = silent m aux reported h
+after_event m aux reported h long current = silent m aux reported h
+after_event m aux reported h long (began pending) = silent m aux reported h
 
--- there are as many records as readers
+-- there are always as many readers, and as many records
+as_many_after : (m : MachineState) (aux : Auxiliary) {next : MachineState} {after : Auxiliary} {event : Event} {note : Note} → Outcome m aux event next after note
+    → (length next.readers ≡ length m.readers) × (length after.records ≡ length aux.records)
+as_many_after m aux (stepped r stage at) =
+    let d = stage_action r stage in
+    let found : ℕ = get_or m.words d.word 0 in
+    (length-set m.readers r (d.after found), length-set aux.records r (readings_after stage (d.after found) (record_at aux.records r)))
+as_many_after m aux wrote = (refl, refl)
+as_many_after m aux (skipped event) = (refl, refl)
+as_many_after m aux (accepted command ok) = (refl, refl)
+as_many_after m aux (refused command why) = (refl, refl)
+as_many_after m aux current = (refl, refl)
+as_many_after m aux (began pending) = (refl, refl)
+
 as_many : (m : MachineState) (aux : Auxiliary) → length aux.records ≡ length m.readers → (event : Event) → length (auxiliary_step m aux event).records ≡ length (transition m event).0.readers
-as_many m aux long (Submit command) =
-    elim (is_idle m.writer.phase) as (λ b. length aux.records ≡ length (cond b (machine_and_note m command (verdict_of m.ledger command)) (m, Skipped)).0.readers) [ true ↦ long | false ↦ long ]
-as_many m aux long Publish =
-    elim (is_idle m.writer.phase) as (λ b. length aux.records ≡ length (cond b (published_by m (is_pending m)) (m, Skipped)).0.readers) [
-      | true ↦ elim (is_pending m) as (λ c. length aux.records ≡ length (published_by m c).0.readers) [ true ↦ long | false ↦ long ]
-      | false ↦ long
-    ]
-as_many m aux long Writer = long
-as_many m aux long (Reader zero) = long
-as_many m aux long (Reader (suc r)) =
-    elim (slice_get m.readers r) as (λ o. length (auxiliary_reader_step m aux r o).records ≡ length (reader_transition m r o).0.readers) [
-      | None ↦ long
-      | Some stage ↦ let d = stage_action r stage in
-          let found : ℕ = get_or m.words d.word 0 in
-          length-set aux.records r (readings_after stage (d.after found) (record_at aux.records r)) ∙ (long ∙ sym (length-set m.readers r (d.after found)))
-    ]
+as_many m aux long event = let same = as_many_after m aux (outcome m aux event) in same.1 ∙ (long ∙ sym same.0)
 
 reported_all : (events : List Event) (m : MachineState) (aux : Auxiliary) (reported : ℕ → List (List ℕ)) → Reports m aux reported → length aux.records ≡ length m.readers
     → Reports (state_after_events m events) (auxiliary_steps m aux events) (λ r. reported r ++ sheets_reported (suc r) (notes m events))
 reported_all [] m aux reported h long = silent m aux reported h
 reported_all (event ∷ events) m aux reported h long = λ r stage at.
-    reported_all events (transition m event).0 (auxiliary_step m aux event) (λ q. reported q ++ reported_of (suc q) (transition m event).1) (after_event m aux reported h long event) (as_many m aux long event) r stage at
+    reported_all events (transition m event).0 (auxiliary_step m aux event) (λ q. reported q ++ reported_of (suc q) (transition m event).1) (after_event m aux reported h long (outcome m aux event)) (as_many m aux long event) r stage at
     ∙ ap (λ (l : List (List ℕ)). l ++ about_to_leave stage) (append_assoc (reported r) (reported_of (suc r) (transition m event).1) (sheets_reported (suc r) (notes (transition m event).0 events)))
 
 stage_at_start : (n r : ℕ) (stage : Stage) → slice_get (replicate n AtRest) r ≡ Some stage → AtRest ≡ stage
@@ -171,33 +152,20 @@ absent_set (y ∷ xs) (suc i) (suc j) x e = absent_set xs i j x e
 abbrev IsAbsent : MachineState → ℕ → Type 0
 IsAbsent m number = (r : ℕ) → number ≡ suc r → slice_get m.readers r ≡ None
 
-absent_after : (m : MachineState) (number : ℕ) → IsAbsent m number → (event : Event) → IsAbsent (transition m event).0 number × (reported_of number (transition m event).1 ≡ [])
-absent_after m number h (Submit command) =
-    elim (is_idle m.writer.phase) as (λ b. let t = cond b (machine_and_note m command (verdict_of m.ledger command)) (m, Skipped) in IsAbsent t.0 number × (reported_of number t.1 ≡ [])) [
-      | true ↦ elim (verdict_of m.ledger command) as (λ v. let t = machine_and_note m command v in IsAbsent t.0 number × (reported_of number t.1 ≡ [])) [ Ok u ↦ (h, refl) | Err refusal ↦ (h, refl) ]
-      | false ↦ (h, refl)
-    ]
-absent_after m number h Publish =
-    elim (is_idle m.writer.phase) as (λ b. let t = cond b (published_by m (is_pending m)) (m, Skipped) in IsAbsent t.0 number × (reported_of number t.1 ≡ [])) [
-      | true ↦ elim (is_pending m) as (λ c. let t = published_by m c in IsAbsent t.0 number × (reported_of number t.1 ≡ [])) [ true ↦ (h, refl) | false ↦ (h, refl) ]
-      | false ↦ (h, refl)
-    ]
-absent_after m number h Writer = (h, quiet_writer m.writer number _ m.writer.phase)
-absent_after m number h (Reader zero) = (h, refl)
-absent_after m number h (Reader (suc r)) = by_stage (slice_get m.readers r) refl
-  where
-    by_stage : (o : Option Stage) → slice_get m.readers r ≡ o → IsAbsent (reader_transition m r o).0 number × (reported_of number (reader_transition m r o).1 ≡ [])
-    by_stage None at = (h, refl)
-    by_stage (Some stage) at =
-        let d = stage_action r stage in (
-          λ q e. absent_set m.readers r q (d.after (get_or m.words d.word 0)) (h q e),
-          others r number stage (λ e. none-some stage (sym (h r e) ∙ at)),
-        )
+absent_after : (m : MachineState) (number : ℕ) → IsAbsent m number → {next : MachineState} {aux after : Auxiliary} {event : Event} {note : Note} → Outcome m aux event next after note → IsAbsent next number × (reported_of number note ≡ [])
+absent_after m number h (stepped r stage at) =
+    (λ q e. absent_set m.readers r q ((stage_action r stage).after _) (h q e), others r number stage (λ e. none-some stage (sym (h r e) ∙ at)))
+absent_after m number h wrote = (h, quiet_writer m.writer number _ m.writer.phase)
+absent_after m number h (skipped event) = (h, refl)
+absent_after m number h (accepted command ok) = (h, refl)
+absent_after m number h (refused command why) = (h, refl)
+absent_after m number h current = (h, refl)
+absent_after m number h (began pending) = (h, refl)
 
 absent_all : (events : List Event) (m : MachineState) (number : ℕ) → IsAbsent m number → sheets_reported number (notes m events) ≡ []
 absent_all [] m number h = refl
 absent_all (event ∷ events) m number h =
-    let t = absent_after m number h event in
+    let t = absent_after m number h (outcome m no_auxiliary event) in
     ap (λ (l : List (List ℕ)). l ++ sheets_reported number (notes (transition m event).0 events)) t.1 ∙ absent_all events (transition m event).0 number t.0
 
 -- the fronts of a record never fall
@@ -228,26 +196,9 @@ first_rise readings rest whole e up =
 nothing_falls : IsNonDecreasingBy front_of []
 nothing_falls = IsNonDecreasingBy-short front_of [] (omega arith)
 
--- there are always as many readers
-same_readers : (m : MachineState) (event : Event) → length (transition m event).0.readers ≡ length m.readers
-same_readers m (Submit command) =
-    elim (is_idle m.writer.phase) as (λ b. length (cond b (machine_and_note m command (verdict_of m.ledger command)) (m, Skipped)).0.readers ≡ length m.readers) [ true ↦ refl | false ↦ refl ]
-same_readers m Publish =
-    elim (is_idle m.writer.phase) as (λ b. length (cond b (published_by m (is_pending m)) (m, Skipped)).0.readers ≡ length m.readers) [
-      | true ↦ elim (is_pending m) as (λ c. length (published_by m c).0.readers ≡ length m.readers) [ true ↦ refl | false ↦ refl ]
-      | false ↦ refl
-    ]
-same_readers m Writer = refl
-same_readers m (Reader zero) = refl
-same_readers m (Reader (suc r)) =
-    elim (slice_get m.readers r) as (λ o. length (reader_transition m r o).0.readers ≡ length m.readers) [
-      | None ↦ refl
-      | Some stage ↦ let d = stage_action r stage in length-set m.readers r (d.after (get_or m.words d.word 0))
-    ]
-
 readers_all : (events : List Event) (m : MachineState) → length (state_after_events m events).readers ≡ length m.readers
 readers_all [] m = refl
-readers_all (event ∷ events) m = readers_all events (transition m event).0 ∙ same_readers m event
+readers_all (event ∷ events) m = readers_all events (transition m event).0 ∙ (as_many_after m no_auxiliary (outcome m no_auxiliary event)).0
 
 module _ (ledger : Ledger) (readers : ℕ) (events : List Event) where
   abbrev m : MachineState

@@ -1,12 +1,10 @@
 -- The stages of a reader, by number and as code.
-use Rattle.std.proofs.Common.{◌≡◌, ◌≢◌, ℕ, eqb, ◌+◌, ◌<◌, ◌≤◌, Bool, cond, List, [], ◌∷◌, ◌++◌, length, Some, refl, sym, ap, ◌∙◌, arith, length-append, eq-eqb, ne_eqb}
-use mathlib.Core.Logic.{dite}
-use native.Mathlib.Decide.{ℕ_discrete}
-use Rattle.two_copy_steps.specs.declared.views.Stage.{Stage}
-use Rattle.two_copy_steps.specs.declared.views.Stage.TheVariants.{AtRest, Arrived, Reading, Leaving}
-use Rattle.two_copy_steps.specs.declared.table.TheConstants.{COPY_WORDS}
-use Rattle.two_copy_steps.specs.Actions.{readings_with, stage_with_words, stage_action, reader_action}
-use Rattle.two_copy_steps.specs.Stages.{IsReadable, sheet_read, steps_taken, last_load, last_step}
+use Rattle.two_copy_steps.proofs.Names.{[], ap, arith, Arrived, AtRest, Bool, cond, COPY_WORDS, dite, eq-eqb, eqb}
+use Rattle.two_copy_steps.proofs.Names.{IsReadable, Leaving, length, length-append, List, ne_eqb, reader_action}
+use Rattle.two_copy_steps.proofs.Names.{Reading, refl, sheet_read, Some, Stage, stage_action, stage_with_words}
+use Rattle.two_copy_steps.proofs.Names.{steps_taken, sym, ℕ, ℕ_discrete, ◌++◌, ◌+◌, ◌<◌, ◌∙◌, ◌∷◌, ◌≡◌, ◌≢◌, ◌≤◌}
+use Rattle.two_copy_steps.specs.Actions.{readings_with}
+use Rattle.two_copy_steps.specs.Stages.{last_load, last_step}
 
 -- after the last word the reader leaves
 pub loaded_last : (side : ℕ) (words : List ℕ) → length words ≡ COPY_WORDS → stage_with_words side words ≡ Leaving side words

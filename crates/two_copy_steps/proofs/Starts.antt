@@ -1,24 +1,17 @@
 -- The start meets the invariant.
-use Rattle.std.proofs.Common.{◌≡◌, ℕ, zero, suc, ◌+◌, ◌<◌, true, List, [], ◌∷◌, ◌++◌, length, get_or, take, replicate, Some, slice_get, Contains, refl, sym, ap, ◌∙◌, subst, arith, length-append, append-nil, true≢false}
+use Rattle.two_copy_steps.proofs.Names.{[], ap, append-nil, arith, AtRest, auxiliary_start, Command, Contains}
+use Rattle.two_copy_steps.proofs.Names.{copy_word, COPY_WORDS, get_or, IsLawfulMachine, Ledger, length, length-append}
+use Rattle.two_copy_steps.proofs.Names.{List, machine_at_start, none-some, Opening, pin, ReaderOk, ReaderView, refl}
+use Rattle.two_copy_steps.proofs.Names.{replicate, same_Some, sequential_start, slice_get, Some, Stage, state_of, subst}
+use Rattle.two_copy_steps.proofs.Names.{suc, sym, take, take-length, true, true≢false, WriterOk, zero, ℕ, ◌++◌, ◌+◌}
+use Rattle.two_copy_steps.proofs.Names.{◌<◌, ◌∙◌, ◌∷◌, ◌≡◌}
 use Rattle.std.proofs.lemmas.List.{get_or_append_left, get_or-append-add, get_or-replicate, length-replicate}
 use Rattle.std.proofs.lemmas.List.Sorted.{IsNonDecreasingBy-short}
-use Rattle.std.proofs.lemmas.Option.{none-some, same_Some}
-use Rattle.std.proofs.Math.Seq.{take-length}
-use Rattle.council_core.specs.declared.commands.Command.{Command}
-use Rattle.council_core.specs.Rolls.{Opening}
-use Rattle.council_core.specs.Ledgers.{Ledger, sheet_of}
-use Rattle.two_copy_steps.specs.declared.views.ReaderView.{ReaderView}
-use Rattle.two_copy_steps.specs.declared.views.Stage.{Stage}
-use Rattle.two_copy_steps.specs.declared.views.Stage.TheVariants.{AtRest}
-use Rattle.two_copy_steps.specs.declared.table.TheConstants.{COPY_WORDS}
-use Rattle.two_copy_steps.specs.Lawful.{ReaderOk, WriterOk}
-use Rattle.two_copy_steps.specs.Transitions.{machine_at_start}
-use Rattle.two_copy_steps.specs.Auxiliary.{auxiliary_start, reader_views, state_of, IsLawfulMachine}
-use Rattle.two_copy_steps.specs.Effects.{sequential_start}
+use Rattle.council_core.specs.Ledgers.{sheet_of}
+use Rattle.two_copy_steps.specs.Auxiliary.{reader_views}
 use Rattle.two_copy_steps.proofs.Records.{sheet_long}
 use Rattle.two_copy_steps.proofs.Replies.{Agrees, Held}
 use Rattle.two_copy_steps.proofs.TransitionSteps.{view_at}
-use Rattle.two_copy_steps.specs.Actions.{pin, copy_word}
 
 -- the words at the start, by index
 module _ (numbers pins : List ℕ) (long : length numbers ≡ COPY_WORDS) where

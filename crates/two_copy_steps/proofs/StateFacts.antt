@@ -1,23 +1,18 @@
 -- Consequences of the invariant, for every state.
-use Rattle.std.proofs.Common.{◌≡◌, ℕ, zero, suc, List, [], ◌∷◌, length, map, Option, None, Some, slice_get, Contains, refl, sym, ap, ◌∙◌, subst, arith}
+use Rattle.two_copy_steps.proofs.Names.{[], ap, AreLegalRecords, arith, Arrived, AtRest, Command, Contains, Filling}
+use Rattle.two_copy_steps.proofs.Names.{HoldsCopy, Idle, IsApart, IsLawfulState, IsPublishable, IsReadable}
+use Rattle.two_copy_steps.proofs.Names.{IsRecordFrom, Leaving, length, List, map, None, none-some, Opening, Option}
+use Rattle.two_copy_steps.proofs.Names.{other_side, Phase, ReaderView, Reading, refl, same_Some, Seeing, side_held}
+use Rattle.two_copy_steps.proofs.Names.{slice_get, Some, Stage, Stands, State, subst, suc, Swapping, sym, take-length}
+use Rattle.two_copy_steps.proofs.Names.{zero, ℕ, ◌∙◌, ◌∷◌, ◌≡◌}
 use Rattle.std.specs.Option.{option_map}
 use Rattle.std.proofs.lemmas.List.Elements.{Contains-get_or, Contains-push}
-use Rattle.std.proofs.lemmas.Option.{none-some, same_Some, slice_get-map}
-use Rattle.std.proofs.Math.Seq.{take-length}
-use Rattle.council_core.specs.declared.commands.Command.{Command}
-use Rattle.council_core.specs.Rolls.{Opening, IsLegal}
-use Rattle.council_core.specs.Sequential.{IsRecordFrom, AreRecords, AreLegalRecords}
+use Rattle.std.proofs.lemmas.Option.{slice_get-map}
+use Rattle.council_core.specs.Rolls.{IsLegal}
+use Rattle.council_core.specs.Sequential.{AreRecords}
 use Rattle.council_core.specs.Sheets.{IsSheet}
-use Rattle.two_copy_steps.specs.declared.views.ReaderView.{ReaderView}
-use Rattle.two_copy_steps.specs.declared.views.Stage.{Stage}
-use Rattle.two_copy_steps.specs.declared.views.Stage.TheVariants.{AtRest, Arrived, Reading, Leaving}
-use Rattle.two_copy_steps.specs.declared.views.Phase.{Phase}
-use Rattle.two_copy_steps.specs.declared.views.Phase.TheVariants.{Idle, Seeing, Filling, Swapping}
-use Rattle.two_copy_steps.specs.Actions.{other_side}
-use Rattle.two_copy_steps.specs.Lawful.{State, IsLawfulState, IsPublishable, HoldsCopy, Stands}
-use Rattle.two_copy_steps.specs.Auxiliary.{IsApart, side_held, side_filled}
+use Rattle.two_copy_steps.specs.Auxiliary.{side_filled}
 use Rattle.two_copy_steps.specs.Laws.{StateRecordsLaw, StateUnderLaw}
-use Rattle.two_copy_steps.specs.Stages.{IsReadable}
 use Rattle.two_copy_steps.specs.States.{EndsWith, IsKnown}
 use Rattle.two_copy_steps.proofs.ReaderSteps.{reader, leaving_reads}
 use Rattle.two_copy_steps.proofs.WriterSteps.{no_reader_there}

@@ -1,30 +1,24 @@
 -- What the machine keeps, step by step.
-use Rattle.std.proofs.Common.{◌≡◌, ◌≢◌, ◌⊎◌, ⊎_elim, ℕ, zero, suc, eqb, ◌+◌, ◌-◌, ◌<◌, ◌≤◌, Bool, true, false, cond, List, [], ◌∷◌, ◌++◌, length, get_or, take, set, replicate, Option, Some, slice_get, Result, Ok, Err, IfOk, OnErr, refl, sym, ap, ◌∙◌, subst, arith, length-append, eq-eqb, ne_eqb, length-take}
-use Rattle.std.specs.Prelude.{⊤, nat_lt}
-use Rattle.std.proofs.lemmas.List.{set-get_or, take-append-le}
+use Rattle.two_copy_steps.proofs.Names.{[], abandoned_writing, all_true, ap, arith, Arrived, AtRest, Auxiliary}
+use Rattle.two_copy_steps.proofs.Names.{auxiliary_start, auxiliary_step, Began, Bool, Busy, Command, cond, copy_word}
+use Rattle.two_copy_steps.proofs.Names.{COPY_WORDS, eq-eqb, eqb, Err, Event, false, Filling, Fills, first_false}
+use Rattle.two_copy_steps.proofs.Names.{front_of, get_or, Idle, is_idle, is_pending, IsLawfulMachine, IsLedger}
+use Rattle.two_copy_steps.proofs.Names.{IsMachine, IsPublishable, IsReadable, Leaving, Ledger, ledger_with, length}
+use Rattle.two_copy_steps.proofs.Names.{length-append, length-take, List, machine_and_note, machine_at_start}
+use Rattle.two_copy_steps.proofs.Names.{MachineState, Moved, ne_eqb, Note, Ok, Option, Phase, phase_action, phase_note}
+use Rattle.two_copy_steps.proofs.Names.{pin, Publish, Published, published_by, Reader, reader_transition, Reading}
+use Rattle.two_copy_steps.proofs.Names.{record_at, refl, Refusal, replicate, Result, Seeing, seen_as, seen_writing, set}
+use Rattle.two_copy_steps.proofs.Names.{set-get_or, sheet, Skipped, slice_get, Some, Stage, stage_action, stage_note}
+use Rattle.two_copy_steps.proofs.Names.{Stands, state_of, Submit, subst, suc, Swapping, sym, take, take-append-le}
+use Rattle.two_copy_steps.proofs.Names.{take-length, transition, true, verdict_of, Writer, zero, ℕ, ⊎_elim, ⊤, ◌++◌}
+use Rattle.two_copy_steps.proofs.Names.{◌+◌, ◌<◌, ◌∙◌, ◌∷◌, ◌≡◌, ◌≢◌, ◌≤◌, ◌⊎◌}
+use Rattle.std.proofs.Common.{◌-◌, IfOk, OnErr}
+use Rattle.std.specs.Prelude.{nat_lt}
 use Rattle.std.proofs.lemmas.Bool.{lt-ltb}
 use Rattle.std.proofs.lemmas.Option.{slice_get-get_or, slice_get_past}
-use Rattle.std.proofs.Math.Seq.{take-length}
-use Rattle.council_core.specs.declared.commands.Command.{Command}
-use Rattle.council_core.specs.declared.refusals.Refusal.{Refusal}
-use Rattle.council_core.specs.Rolls.{sheet}
-use Rattle.council_core.specs.Ledgers.{Ledger, IsLedger, sheet_of, verdict_of, ledger_with}
-use Rattle.council_core.specs.Sheets.{front_of, IsSheet}
-use Rattle.two_copy_steps.specs.declared.events.Event.{Event}
-use Rattle.two_copy_steps.specs.declared.events.Event.TheVariants.{Submit, Publish, Writer, Reader}
-use Rattle.two_copy_steps.specs.declared.events.Note.{Note}
-use Rattle.two_copy_steps.specs.declared.events.Note.TheVariants.{Began, Busy, Moved, Published, Skipped}
-use Rattle.two_copy_steps.specs.declared.views.Stage.{Stage}
-use Rattle.two_copy_steps.specs.declared.views.Stage.TheVariants.{AtRest, Arrived, Reading, Leaving}
-use Rattle.two_copy_steps.specs.declared.views.Phase.{Phase}
-use Rattle.two_copy_steps.specs.declared.views.Phase.TheVariants.{Idle, Seeing, Filling, Swapping}
-use Rattle.two_copy_steps.specs.declared.table.TheConstants.{COPY_WORDS}
-use Rattle.two_copy_steps.specs.Actions.{all_true, first_false, copy_word, writing_with_quiescent, stage_action, phase_action, pin}
-use Rattle.two_copy_steps.specs.Lawful.{IsPublishable, Stands, Fills}
-use Rattle.two_copy_steps.specs.Transitions.{MachineState, transition, ledger_and_note, machine_at_start, machine_and_note, published_by, is_pending, is_idle, reader_transition, phase_note, stage_note}
-use Rattle.two_copy_steps.specs.Auxiliary.{Auxiliary, auxiliary_start, auxiliary_step, record_at, state_of, IsLawfulMachine}
-use Rattle.two_copy_steps.specs.Machines.{seen_as, IsMachine}
-use Rattle.two_copy_steps.specs.Stages.{IsReadable}
+use Rattle.council_core.specs.Ledgers.{sheet_of}
+use Rattle.council_core.specs.Sheets.{IsSheet}
+use Rattle.two_copy_steps.specs.Transitions.{ledger_and_note}
 use Rattle.two_copy_steps.proofs.ReaderSteps.{leaving_reads}
 use Rattle.two_copy_steps.proofs.WriterSteps.{first_inside}
 use Rattle.two_copy_steps.proofs.TransitionSteps.{view_at, viewed_at, viewed_length, written_keeps, publish_keeps, accepted_keeps, step_keeps}
@@ -51,7 +45,7 @@ module _ (L : Ledger) (W : List ℕ) (s n : ℕ) (t : List ℕ) (ph : Phase) (so
   -- a load changes no word
   abbrev looked : List ℕ → Bool → MachineState × Note
   looked words b =
-      (record old { words = words; writer = cond b (writing_with_quiescent old.writer (set so (first_false so) true)) (record old.writer { phase = Idle }) }, cond b Moved (Busy (suc (first_false so))))
+      (record old { words = words; writer = cond b (seen_writing old.writer (first_false so)) (abandoned_writing old.writer) }, cond b Moved (Busy (suc (first_false so))))
 
   looks : (b : Bool) → ph ≡ Seeing → eqb (get_or W (pin (first_false so)) 0) 0 ≡ b → looked W b ≡ transition old Writer
   looks b e is = ap (looked W) (sym is) ∙ (ap (λ words. looked words (eqb (get_or W (pin (first_false so)) 0) 0)) (sym (set-get_or W (pin (first_false so)) 0)) ∙ wrote_at old Seeing e)

@@ -1,12 +1,8 @@
 -- The machine's transition as a step of words and views.
-use Rattle.std.proofs.Common.{◌≡◌, ℕ, suc, ◌<◌, List, length, get_or, set, Option, Some, slice_get, sym, ap, ◌∙◌, subst}
-use Rattle.two_copy_steps.specs.declared.events.Event.TheVariants.{Reader}
-use Rattle.two_copy_steps.specs.declared.views.ReaderView.{ReaderView}
-use Rattle.two_copy_steps.specs.declared.views.Stage.{Stage}
-use Rattle.two_copy_steps.specs.Actions.{readings_after, stage_action}
-use Rattle.two_copy_steps.specs.Lawful.{State, read_by}
-use Rattle.two_copy_steps.specs.Transitions.{MachineState, transition, reader_transition}
-use Rattle.two_copy_steps.specs.Auxiliary.{Auxiliary, auxiliary_step, auxiliary_reader_step, record_at, state_of}
+use Rattle.two_copy_steps.proofs.Names.{ap, Auxiliary, auxiliary_reader_step, auxiliary_step, get_or, length, List}
+use Rattle.two_copy_steps.proofs.Names.{MachineState, Option, read_by, Reader, reader_transition, ReaderView}
+use Rattle.two_copy_steps.proofs.Names.{readings_after, record_at, set, slice_get, Some, Stage, stage_action, State}
+use Rattle.two_copy_steps.proofs.Names.{state_of, subst, suc, sym, transition, ℕ, ◌<◌, ◌∙◌, ◌≡◌}
 use Rattle.two_copy_steps.proofs.Lists.{inside}
 use Rattle.two_copy_steps.proofs.TransitionSteps.{view_at, viewed_set}
 

@@ -1,23 +1,16 @@
 -- Each event keeps the invariant of the machine, with its cuts and records.
-use Rattle.std.proofs.Common.{◌≡◌, ℕ, zero, suc, eqb, ◌<◌, Bool, true, false, cond, List, [], ◌∷◌, ◌++◌, map, length, get_or, set, Option, None, Some, slice_get, Result, Ok, Err, refl, sym, ap, ◌∙◌, subst, arith, length-set, append_assoc, append-nil, true≢false}
-use Rattle.std.specs.Prelude.{⊤}
-use Rattle.std.proofs.lemmas.Option.{none-some, same_Some}
-use Rattle.council_core.specs.declared.commands.Command.{Command}
-use Rattle.council_core.specs.declared.refusals.Refusal.{Refusal}
-use Rattle.council_core.specs.Rolls.{Opening, sheet}
-use Rattle.council_core.specs.Ledgers.{verdict_of, ledger_with}
-use Rattle.two_copy_steps.specs.declared.events.Event.{Event}
-use Rattle.two_copy_steps.specs.declared.events.Event.TheVariants.{Submit, Publish, Writer, Reader}
-use Rattle.two_copy_steps.specs.declared.events.Note.TheVariants.{Skipped}
-use Rattle.two_copy_steps.specs.declared.views.ReaderView.{ReaderView}
-use Rattle.two_copy_steps.specs.declared.views.Writing.{Writing}
-use Rattle.two_copy_steps.specs.declared.views.Stage.{Stage}
-use Rattle.two_copy_steps.specs.declared.views.Phase.{Phase}
-use Rattle.two_copy_steps.specs.declared.views.Phase.TheVariants.{Idle, Seeing, Filling, Swapping}
-use Rattle.two_copy_steps.specs.Actions.{readings_after, first_false, writing_with_quiescent, stage_action, phase_action, writing_action}
-use Rattle.two_copy_steps.specs.Lawful.{State, IsLawfulState}
-use Rattle.two_copy_steps.specs.Transitions.{MachineState, transition, machine_and_note, published_by, is_pending, is_idle, reader_transition}
-use Rattle.two_copy_steps.specs.Auxiliary.{Auxiliary, auxiliary_step, auxiliary_reader_step, record_at, reader_views, state_of, IsLawfulMachine}
+use Rattle.two_copy_steps.proofs.Names.{[], abandoned_writing, ap, append-nil, append_assoc, arith, Auxiliary}
+use Rattle.two_copy_steps.proofs.Names.{auxiliary_reader_step, auxiliary_step, Bool, Command, cond, eqb, Err, Event}
+use Rattle.two_copy_steps.proofs.Names.{false, Filling, first_false, get_or, Idle, is_idle, is_pending, IsLawfulMachine}
+use Rattle.two_copy_steps.proofs.Names.{IsLawfulState, ledger_with, length, length-set, List, machine_and_note}
+use Rattle.two_copy_steps.proofs.Names.{MachineState, map, None, none-some, Ok, Opening, Option, Phase, phase_action}
+use Rattle.two_copy_steps.proofs.Names.{Publish, published_by, Reader, reader_transition, ReaderView, readings_after}
+use Rattle.two_copy_steps.proofs.Names.{record_at, refl, Refusal, Result, same_Some, Seeing, seen_writing, set, sheet}
+use Rattle.two_copy_steps.proofs.Names.{Skipped, slice_get, Some, Stage, stage_action, State, state_of, Submit, subst}
+use Rattle.two_copy_steps.proofs.Names.{suc, Swapping, sym, transition, true, true≢false, verdict_of, Writer, Writing}
+use Rattle.two_copy_steps.proofs.Names.{zero, ℕ, ⊤, ◌++◌, ◌<◌, ◌∙◌, ◌∷◌, ◌≡◌}
+use Rattle.two_copy_steps.specs.Actions.{writing_action}
+use Rattle.two_copy_steps.specs.Auxiliary.{reader_views}
 use Rattle.two_copy_steps.proofs.Lists.{inside}
 use Rattle.two_copy_steps.proofs.ReaderSteps.{reader_keeps}
 use Rattle.two_copy_steps.proofs.WriterSteps.{writer_keeps, begin_keeps}
@@ -59,7 +52,7 @@ records_viewed (stage ∷ stages) [] e = absurd (omega (arith, e))
 records_viewed (stage ∷ stages) (x ∷ records) e = ap (λ l. x ∷ l) (records_viewed stages records (omega (arith, e)))
 
 -- a look at a pin keeps the published and the staged list
-pub looked_taken : (w : Writing) (r : ℕ) (b : Bool) → let y = cond b (writing_with_quiescent w (set w.seen_out r true)) (record w { phase = Idle }) in (y.published ≡ w.published) × (y.staged ≡ w.staged)
+pub looked_taken : (w : Writing) (r : ℕ) (b : Bool) → let y = cond b (seen_writing w r) (abandoned_writing w) in (y.published ≡ w.published) × (y.staged ≡ w.staged)
 looked_taken w r true = (refl, refl)
 looked_taken w r false = (refl, refl)
 

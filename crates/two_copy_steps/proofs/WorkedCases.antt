@@ -1,24 +1,21 @@
 -- Small cases, computed, over a register of one member, with one reader; and what definitions must not hold of.
-use Rattle.std.proofs.Common.{◌≡◌, ◌^◌, ℕ, suc, arith, rules, true, false, List, [], ◌∷◌, ◌++◌, replicate, None, Some, refl}
-use Rattle.council_core.specs.Ledgers.{Ledger}
-use Rattle.council_core.specs.declared.commands.Command.TheVariants.{Open, Move, SetVotes}
-use Rattle.two_copy_steps.specs.declared.events.Event.{Event}
-use Rattle.two_copy_steps.specs.declared.events.Event.TheVariants.{Submit, Publish, Writer, Reader}
-use Rattle.two_copy_steps.specs.declared.events.Note.TheVariants.{Accepted, Refused, Began, Busy, Moved, Published, Read, Skipped}
-use Rattle.two_copy_steps.specs.declared.table.TheConstants.{COPY_WORDS, READERS}
-use Rattle.two_copy_steps.specs.declared.views.Stage.{Stage}
-use Rattle.two_copy_steps.specs.declared.views.Stage.TheVariants.{AtRest, Arrived, Reading, Leaving}
-use Rattle.two_copy_steps.specs.declared.views.Phase.TheVariants.{Idle, Seeing, Filling, Swapping}
+use Rattle.two_copy_steps.proofs.Names.{[], Accepted, arith, Arrived, AtRest, Began, Busy, COPY_WORDS, effects, Event}
+use Rattle.two_copy_steps.proofs.Names.{false, Filling, HasVotesInRange, Idle, IsApart, Leaving, Ledger, List}
+use Rattle.two_copy_steps.proofs.Names.{machine_at_start, MachineState, Moved, None, notes, Open, Publish, Published}
+use Rattle.two_copy_steps.proofs.Names.{Read, Reader, Reading, refl, Refused, replicate, replied_at, Seeing}
+use Rattle.two_copy_steps.proofs.Names.{sequential_start, SequentialRun, SetVotes, side_held, Skipped, Some, Stage}
+use Rattle.two_copy_steps.proofs.Names.{State, steps_taken, Submit, suc, Swapping, true, Writer, ℕ, ◌++◌, ◌^◌, ◌∷◌, ◌≡◌}
+use Rattle.std.proofs.Common.{rules}
+use Rattle.council_core.specs.declared.commands.Command.TheVariants.{Move}
+use Rattle.two_copy_steps.specs.declared.table.TheConstants.{READERS}
 use Rattle.council_core.specs.Sequential.{submit, publish, read}
 use Rattle.council_core.specs.declared.refusals.Refusal.TheVariants.{ChairOpen}
-use Rattle.two_copy_steps.specs.Effects.{SequentialRun, begun_after, effects, replied_at, sequential_start}
-use Rattle.two_copy_steps.specs.Laws.{SubmitsInRange, HasVotesInRange, StateRecordsLaw}
-use Rattle.two_copy_steps.specs.Auxiliary.{IsApart, side_filled, side_held}
-use Rattle.two_copy_steps.specs.Lawful.{State}
+use Rattle.two_copy_steps.specs.Effects.{begun_after}
+use Rattle.two_copy_steps.specs.Laws.{SubmitsInRange, StateRecordsLaw}
+use Rattle.two_copy_steps.specs.Auxiliary.{side_filled}
 use Rattle.two_copy_steps.specs.Publications.{stores_side}
-use Rattle.two_copy_steps.specs.Stages.{reading_steps, steps_taken}
+use Rattle.two_copy_steps.specs.Stages.{reading_steps}
 use Rattle.two_copy_steps.specs.States.{IsLawfulBoard}
-use Rattle.two_copy_steps.specs.Transitions.{MachineState, machine_at_start, notes}
 
 abbrev pub one_member : Ledger
 one_member = record { opening = (65 ∷ 65 ∷ 65 ∷ [], 10) ∷ []; journal = []; limit = 100 }

@@ -1,23 +1,19 @@
 -- A writer's step keeps the invariant of the state.
-use Rattle.std.proofs.Common.{◌≡◌, ◌≢◌, ℕ, zero, suc, eqb, ◌+◌, ◌<◌, ◌≤◌, Bool, true, false, cond, List, [], ◌∷◌, ◌++◌, length, get_or, take, set, replicate, Some, slice_get, Contains, refl, sym, ap, ◌∙◌, subst, ⊎_elim, arith, le_trans, length-set, length-append, append_assoc, append-nil, get_or-set_other, get_or-set_same, eq-eqb, ne_eqb}
-use Rattle.std.proofs.lemmas.List.{set-get_or, take-append-le, length-replicate}
+use Rattle.two_copy_steps.proofs.Names.{[], abandoned_writing, all_true, ap, append-nil, append_assoc, arith, Arrived}
+use Rattle.two_copy_steps.proofs.Names.{AtRest, Bool, Command, cond, Contains, copy_word, COPY_WORDS, cuts_past, dite}
+use Rattle.two_copy_steps.proofs.Names.{eq-eqb, eqb, false, Filling, Fills, first_false, get_or, get_or-set_other}
+use Rattle.two_copy_steps.proofs.Names.{HoldsCopy, Idle, IsLawfulState, le_trans, Leaving, length, length-append}
+use Rattle.two_copy_steps.proofs.Names.{length-set, List, ne_eqb, none-some, Opening, other_side, Phase, phase_action}
+use Rattle.two_copy_steps.proofs.Names.{pin, pin_of, ReaderOk, ReaderView, Reading, refl, replicate, Seeing}
+use Rattle.two_copy_steps.proofs.Names.{seen_writing, set, set-get_or, sheet, slice_get, Some, Stage, Stands, State}
+use Rattle.two_copy_steps.proofs.Names.{subst, suc, Swapping, sym, take, take-append-le, take-length, true, WriterOk}
+use Rattle.two_copy_steps.proofs.Names.{Writing, zero, ℕ, ℕ_discrete, ⊎_elim, ◌++◌, ◌+◌, ◌<◌, ◌∙◌, ◌∷◌, ◌≡◌, ◌≢◌, ◌≤◌}
+use Rattle.std.proofs.Common.{get_or-set_same}
+use Rattle.std.proofs.lemmas.List.{length-replicate}
 use Rattle.std.proofs.lemmas.List.Elements.{Contains-append_left, Contains-push_cases}
-use Rattle.std.proofs.lemmas.Option.{none-some}
-use Rattle.std.proofs.Math.Seq.{take-length}
-use mathlib.Core.Logic.{dite}
-use native.Mathlib.Decide.{ℕ_discrete}
-use Rattle.council_core.specs.declared.commands.Command.{Command}
-use Rattle.council_core.specs.Rolls.{Opening, sheet}
-use Rattle.two_copy_steps.specs.declared.views.ReaderView.{ReaderView}
 use Rattle.two_copy_steps.specs.declared.views.WriterView.{WriterView}
-use Rattle.two_copy_steps.specs.declared.views.Writing.{Writing}
-use Rattle.two_copy_steps.specs.declared.views.Stage.{Stage}
-use Rattle.two_copy_steps.specs.declared.views.Stage.TheVariants.{AtRest, Arrived, Reading, Leaving}
-use Rattle.two_copy_steps.specs.declared.views.Phase.{Phase}
-use Rattle.two_copy_steps.specs.declared.views.Phase.TheVariants.{Idle, Seeing, Filling, Swapping}
-use Rattle.two_copy_steps.specs.declared.table.TheConstants.{COPY_WORDS}
-use Rattle.two_copy_steps.specs.Actions.{all_true, first_false, other_side, cuts_past, copy_word, pin, writing_with_quiescent, writing_of_staged, filled_writing, swapped_writing, phase_action}
-use Rattle.two_copy_steps.specs.Lawful.{State, written_by, begun_by, pin_of, IsLoadedFrom, HoldsCopy, Stands, ReaderOk, Stored, Fills, WriterOk, IsLawfulState}
+use Rattle.two_copy_steps.specs.Actions.{writing_with_quiescent, writing_of_staged, filled_writing, swapped_writing}
+use Rattle.two_copy_steps.specs.Lawful.{written_by, begun_by, IsLoadedFrom, Stored}
 use Rattle.two_copy_steps.proofs.Lists.{set_else, inside}
 use Rattle.two_copy_steps.proofs.Records.{record-grows, ascends-push}
 use Rattle.two_copy_steps.proofs.ReaderSteps.{copy_word_low}
@@ -164,12 +160,12 @@ module _ (opening : Opening) (Legal : List Command → Type 0) where
   gives_up m l =
       let w = m.writer.state in
       let o = l.writer in
-      moved m.words m.words m.writer (Known (record w { phase = Idle }) m.writer.cuts) m.readers l refl
+      moved m.words m.words m.writer (Known (abandoned_writing w) m.writer.cuts) m.readers l refl
       record { two = o.two; side_is = o.side_is; flags = o.flags; legal = o.legal; begins = o.begins; shown = o.shown; last_cut = o.last_cut; cuts = o.cuts; ascending = o.ascending; fills = tt }
       (λ q _. record { pins = refl; cuts = λ f h. (h, refl); sides = λ s two p late. ((λ i _. refl), late) })
 
   abbrev looked : Writing → ℕ → Bool → Writing
-  looked w r b = cond b (writing_with_quiescent w (set w.seen_out r true)) (record w { phase = Idle })
+  looked w r b = cond b (seen_writing w r) (abandoned_writing w)
 
   sees : (m : State) (k : ℕ) → IsLawfulState opening Legal m → (r : ℕ) → get_or m.words (pin r) 0 ≡ k
       → IsLawfulState opening Legal (At m.words (Known (looked m.writer.state r (eqb k 0)) m.writer.cuts) m.readers)

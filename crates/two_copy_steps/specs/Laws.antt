@@ -1,4 +1,4 @@
--- Laws of the machine, for proofs that build on it.
+-- Laws of the machine: of its start, its states, its events and its runs.
 use Rattle.std.specs.Prelude.{◌≡◌, ◌≢◌, ℕ, suc, ◌+◌, ◌≤◌, ◌==◌, true, false, List, []}
 use Rattle.std.specs.Prelude.{◌∷◌, ◌++◌, length, map, slice_get, slice_index, Some, if◌then◌else◌, All}
 use Rattle.council_core.specs.declared.commands.Command.{Command}

@@ -1,5 +1,5 @@
-//! Laws of the machine, stated as contracts of functions with empty bodies, for proofs that build
-//! on it.
+//! Laws of the machine, of its start, its states, its events and its runs, stated as contracts of
+//! functions with empty bodies.
 ghost use Rattle.two_copy_steps.specs.Laws.{StartLaw, ReaderLaw, WriterLaw, BeginLaw, StateRecordsLaw, StateUnderLaw};
 ghost use Rattle.two_copy_steps.specs.Laws.{StateKnownLaw, WriterTransitionLaw, ReaderTransitionLaw};
 ghost use Rattle.two_copy_steps.specs.Laws.{BeginTransitionLaw, IdleTransitionLaw};

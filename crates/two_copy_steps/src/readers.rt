@@ -1,5 +1,5 @@
 //! The readers' stages, and a step of one of them.
-ghost use Rattle.std.specs.Prelude.{◌≡◌, List, suc, ◌<◌, ◌≤◌, length, take, replicate};
+ghost use Rattle.std.specs.Prelude.{◌≡◌, List, suc, ◌<◌, ◌≤◌, length, replicate};
 ghost use Rattle.std.specs.Prelude.{slice_index, slice_index_or, slice_set};
 ghost use Rattle.two_copy_steps.specs.declared.views.Stage.{Stage};
 ghost use Rattle.two_copy_steps.specs.declared.views.Stage.TheVariants.{AtRest};
@@ -10,23 +10,20 @@ ghost use Rattle.two_copy_steps.specs.Transitions.{stage_note};
 
 use crate::events::Note;
 use crate::stages::ReaderStage;
-use crate::table::{COPY_WORDS, READERS, Table};
-use std::array;
+use crate::table::{READERS, Table};
+use arrayvec::ArrayVec;
 use std::marker::Model;
 
 // The stages of the readers, at most `READERS`.
 #[derive(Debug, Drop)]
 pub(crate) struct ReaderStages {
-    stages: [ReaderStage; READERS],
-    len: u8,
+    stages: ArrayVec<ReaderStage, READERS>,
 }
 
 impl Model for ReaderStages {
     ghost Value = { List Stage };
 
-    ghost view = { λ s. take s.len s.stages };
-
-    ghost invariant = { λ s. (s.len ≤ READERS) × (length s.stages ≡ READERS) };
+    ghost view = { λ s. s.stages.items };
 }
 
 impl ReaderStages {
@@ -35,21 +32,18 @@ impl ReaderStages {
         requires { readers ≤ READERS }
         ensures { result ≡ replicate readers AtRest }
     {
-        ReaderStages {
-            stages: array::from_fn(
-                |_| -> ReaderStage
-                    ensures { result ≡ AtRest }
-                { ReaderStage::new() },
-            ),
-            len: readers,
+        let mut stages = ArrayVec::new();
+        for _reader in 0..readers {
+            stages.push(ReaderStage::new());
         }
+        ReaderStages { stages }
     }
 
     // The number of readers.
     pub(crate) fn len(&self) -> u8
         ensures { result ≡ length self.now }
     {
-        self.len
+        self.stages.len() as u8
     }
 
     // Takes one step of the reader at index `r`, and returns its output.
@@ -63,7 +57,7 @@ impl ReaderStages {
             in self.new ≡ slice_set self.old r (d.after (slice_index table.old d.word)) }
         ensures note { result ≡ stage_note (suc r) (slice_index_or self.old r AtRest) }
     {
-        advance(table, r, &mut self.stages[r as usize])
+        advance(table, r, &mut self.stages.as_mut_slice()[r as usize])
     }
 }
 

@@ -45,6 +45,15 @@ impl Model for ReaderStage {
     ghost view = { λ s. stage_of s.pc s.side s.words };
 }
 
+impl Default for ReaderStage {
+    /// A reader at rest.
+    fn default() -> ReaderStage
+        ensures rest { result ≡ AtRest }
+    {
+        ReaderStage::new()
+    }
+}
+
 impl ReaderStage {
     /// A reader at rest.
     pub fn new() -> ReaderStage

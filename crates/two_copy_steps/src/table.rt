@@ -4,13 +4,14 @@
 //!     words 1 to 34    copy 0, the words of a sheet
 //!     words 35 to 68   copy 1
 //!     words 69 on      a pin for each reader: 1 while it is in a reading, else 0
-ghost use Rattle.std.specs.Prelude.{◌≡◌, ℕ, List, ◌<◌, ◌≤◌, ◌++◌, ◌∷◌, length, replicate};
-ghost use Rattle.std.specs.Prelude.{take, slice_index, slice_set};
+ghost use Rattle.std.specs.Prelude.{◌≡◌, ℕ, List, ◌<◌, ◌≤◌, ◌+◌, ◌++◌, ◌∷◌, length, replicate};
+ghost use Rattle.std.specs.Prelude.{slice_index, slice_set};
 ghost use Rattle.two_copy_steps.specs.declared.table.TheConstants.{READERS, WORDS};
 ghost use Rattle.two_copy_steps.specs.Actions.{pin, copy_word};
 ghost use Rattle.two_copy_steps.specs.Stages.{accessed_word, left_by};
 
 use crate::stages::Access;
+use arrayvec::ArrayVec;
 use council_core::SHEET_WORDS;
 use std::marker::Model;
 
@@ -38,16 +39,13 @@ const WORDS: usize = PINS + READERS;
 /// The shared words: side, copy 0, copy 1, and a pin for each reader.
 #[derive(Debug, Drop)]
 pub struct Table {
-    all: [u64; WORDS],
-    len: usize,
+    words: ArrayVec<u64, WORDS>,
 }
 
 impl Model for Table {
     ghost Value = { List ℕ };
 
-    ghost view = { λ t. take t.len t.all };
-
-    ghost invariant = { λ t. (t.len ≤ WORDS) × (length t.all ≡ WORDS) };
+    ghost view = { λ t. t.words.items };
 }
 
 impl Table {
@@ -57,22 +55,19 @@ impl Table {
         requires bound { readers ≤ READERS }
         ensures words { result ≡ 0 ∷ sheet.now ++ sheet.now ++ replicate readers 0 }
     {
-        let mut all = [0; WORDS];
-        for i in 0..COPY_WORDS {
-            all[COPY_0 + i] = sheet[i];
-            all[COPY_1 + i] = sheet[i];
-        }
-        Table {
-            all,
-            len: PINS + readers as usize,
-        }
+        let mut words = ArrayVec::new();
+        words.push(0);
+        append(&mut words, sheet);
+        append(&mut words, sheet);
+        append(&mut words, &[0; READERS][..readers as usize]);
+        Table { words }
     }
 
     /// The words, in order.
     pub fn as_slice(&self) -> &[u64]
         ensures same { result.now ≡ self.now }
     {
-        &self.all[..self.len]
+        self.words.as_slice()
     }
 
     // Carries out a step's access to its word, and returns the number that is then in it.
@@ -105,7 +100,18 @@ impl Table {
         requires within { index < length self.old }
         ensures { self.new ≡ slice_set self.old index word }
     {
-        self.all[..self.len][index] = word;
+        self.words.as_mut_slice()[index] = word;
+    }
+}
+
+// Appends these words.
+fn append(words: &mut ArrayVec<u64, WORDS>, more: &[u64])
+    requires room { length words.old.items + length more.now ≤ WORDS }
+    ensures added { words.new.items ≡ words.old.items ++ more.now }
+{
+    match words.try_extend_from_slice(more) {
+        Ok(()) => {}
+        Err(_) => unreachable!(),
     }
 }
 

@@ -1,10 +1,9 @@
 /** The place of the registers: a worker made from a blob if the browser allows that for a file, else the page. */
 import workerText from "../../out/worker.txt";
-import { Engine } from "./engine";
 import type { Kind } from "./orders";
-import { Cancelled, pausing } from "./pausing";
+import { Cancelled } from "./pausing";
 import { Pool, type Answer, type Ask, type Boards, type Desk, type Report, type Task } from "./pool";
-import { problemOf, Refusal } from "./problem";
+import { Refusal } from "./problem";
 import type { Message, Reply } from "../worker";
 
 /** The most workers that a long order is split among, however many processors there are. */
@@ -16,17 +15,19 @@ interface Waiting {
   readonly report: Report;
 }
 
-/** A worker that answers orders. */
-class WorkerDesk implements Desk {
-  readonly #worker: Worker;
+/** The address of the worker's script. */
+const scriptUrl = (): string => URL.createObjectURL(new Blob([workerText], { type: "text/javascript" }));
+
+/** A worker that answers orders, or a port to the page itself, which runs the worker's script. */
+class ScriptDesk implements Desk {
+  readonly #port: Worker | MessagePort;
   readonly #waiting = new Map<number, Waiting>();
   #last = 0;
 
-  constructor() {
-    const url = URL.createObjectURL(new Blob([workerText], { type: "text/javascript" }));
-    this.#worker = new Worker(url);
-    this.#worker.onmessage = ({ data }: MessageEvent<Reply>) => this.#take(data);
-    this.#worker.onerror = (event) => {
+  constructor(port: Worker | MessagePort = new Worker(scriptUrl())) {
+    this.#port = port;
+    port.onmessage = ({ data }: MessageEvent<Reply>) => this.#take(data);
+    if ("onerror" in port) port.onerror = (event) => {
       event.preventDefault();
       this.#stop(new Error("the worker doesn't run"));
     };
@@ -47,7 +48,7 @@ class WorkerDesk implements Desk {
 
   ask<Some extends Kind>(kind: Some, ask: Ask<Some>, report: Report = () => {}): Task<Answer<Some>> {
     const id = (this.#last += 1);
-    const send = (message: Message) => this.#worker.postMessage(message);
+    const send = (message: Message) => this.#port.postMessage(message);
     const answer = new Promise<Answer<Some>>((take, refuse) => {
       this.#waiting.set(id, { take, refuse, report });
       send({ id, kind, ask });
@@ -55,24 +56,24 @@ class WorkerDesk implements Desk {
     return { answer, cancel: () => send({ id, kind: "cancel" }) };
   }
 
-  /** Ends the worker: what it was doing is cancelled. */
+  /** Ends a worker: what it was doing is cancelled. */
   end(): void {
-    this.#worker.terminate();
+    if ("terminate" in this.#port) this.#port.terminate();
     this.#stop(new Cancelled());
   }
 }
 
 /** A worker; and one of its own for what gives way to nothing, the count over all coalitions and reading a table. */
 class First implements Desk {
-  readonly #desk: WorkerDesk;
+  readonly #desk: ScriptDesk;
 
-  constructor(desk: WorkerDesk) {
+  constructor(desk: ScriptDesk) {
     this.#desk = desk;
   }
 
   ask<Some extends Kind>(kind: Some, ask: Ask<Some>, report?: Report): Task<Answer<Some>> {
     if (kind !== "plain" && kind !== "read") return this.#desk.ask(kind, ask, report);
-    const own = new WorkerDesk();
+    const own = new ScriptDesk();
     const { answer } = own.ask(kind, ask, report);
     return { answer: answer.finally(() => own.end()), cancel: () => own.end() };
   }
@@ -82,24 +83,22 @@ class First implements Desk {
   }
 }
 
-/** The registers in the page itself. */
-class InPage implements Desk {
-  readonly #engine = new Engine();
-
-  ask<Some extends Kind>(kind: Some, ask: Ask<Some>, report: Report = () => {}): Task<Answer<Some>> {
-    let isCancelled = false;
-    const answer = this.#engine.carryOut(kind, ask, pausing(report, () => isCancelled)).catch((why: unknown) => {
-      throw why instanceof Cancelled ? why : new Refusal(problemOf(why));
-    });
-    return { answer, cancel: () => (isCancelled = true) };
-  }
-
-  end(): void {}
+/** The page itself, which runs the worker's script. */
+async function pageDesk(): Promise<Desk> {
+  const { port1, port2 } = new MessageChannel();
+  Object.assign(globalThis, { orders: port2 });
+  const script = document.createElement("script");
+  await new Promise((resolve, reject) => {
+    [script.onload, script.onerror, script.src] = [resolve, reject, scriptUrl()];
+    document.head.append(script);
+  });
+  script.remove();
+  return new ScriptDesk(port1);
 }
 
 /** A worker that has loaded the module. */
-async function started(bytes: Uint8Array): Promise<WorkerDesk> {
-  const desk = new WorkerDesk();
+async function started(bytes: Uint8Array): Promise<ScriptDesk> {
+  const desk = new ScriptDesk();
   await desk.ask("module", bytes).answer;
   return desk;
 }
@@ -111,7 +110,7 @@ export async function boardsOver(bytes: Uint8Array): Promise<Boards> {
     const most = Math.min(MOST_WORKERS, navigator.hardwareConcurrency || 1);
     return new Pool("worker", new First(await start()), start, most);
   } catch {
-    const page = new InPage();
+    const page = await pageDesk();
     await page.ask("module", bytes).answer;
     return new Pool("page", page, start, 1);
   }

@@ -14,10 +14,10 @@ import { plainCount } from "./plain";
 import { readingOf, readingsOf, type Reading } from "./reading";
 import type { Seat, Snapshot } from "./standing";
 import type { Change, Command } from "../study/study";
-import { contentsOf } from "../tables/sources";
 import { sweptPart } from "./sweep";
 import { turnsOf } from "./turns";
 import { MAJORITIES, type Majority } from "../study/words";
+import { packed, unpackedContents } from "./zip";
 
 /** A script with more records than this after its first publication is taken as a base as a whole. */
 const MOST_LISTED = 1000;
@@ -165,7 +165,8 @@ export class Engine {
       best: (it) => withRegister(this.#copy(it), (board) => triedMoves(board, it, progress)),
       lines: (script) => replayText(script).text,
       check: ({ script, readings }) => isGivenBy(script, readings),
-      read: (given) => contentsOf(given),
+      read: (given) => unpackedContents(given),
+      pack: (texts) => packed(texts),
       plain: (weights) => plainCount(weights),
     };
     return (await acts[kind](ask)) as Orders[Some]["answer"];

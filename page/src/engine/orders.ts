@@ -178,6 +178,8 @@ export interface Orders {
   check: { ask: { readonly script: string; readonly readings: readonly Reading[] }; answer: boolean };
   /** Reads a file or a text. */
   read: { ask: Given; answer: Contents };
+  /** Packs texts, by their paths, as a zip file. */
+  pack: { ask: Readonly<Record<string, string>>; answer: Uint8Array };
   /** Counts a board over all its coalitions, without the module. */
   plain: { ask: Weights; answer: readonly number[] };
 }

@@ -77,7 +77,7 @@ export async function workbookFile(app: App): Promise<Blob> {
     { name: "Fractions", rows: fractionRows(table), widths: [14, 14, 14, 10, 8, 30, 34] },
     { name: "Source", rows: await sourceRows(app, shown, sources), widths: [24, 110] },
   ];
-  return workbookOf(sheets);
+  return workbookOf(app.counter.boards, sheets);
 }
 
 /** The table of chairs as it is shown. */

@@ -1,5 +1,5 @@
 /** Workbooks (.xlsx) that are written: texts stay texts, and numbers have all their digits. */
-import JSZip from "jszip";
+import type { Boards } from "../engine/pool";
 
 /** A cell: a text, a number, or nothing. */
 export type Value = string | number | null;
@@ -19,8 +19,6 @@ const OFFICE = `${FORMATS}/officeDocument/2006/relationships`;
 const PACKAGE = `${FORMATS}/package/2006`;
 const KIND = "application/vnd.openxmlformats-officedocument.spreadsheetml";
 const BLOB = `${KIND}.sheet`;
-/** The same file at every time. */
-const DATE = new Date(Date.UTC(2000, 0, 1));
 
 /** The most rows of a sheet, and the most characters of a cell, that spreadsheets read. */
 const [MOST_ROWS, MOST_CHARACTERS] = [2 ** 20, 32_767];
@@ -115,10 +113,8 @@ function checkSize({ name, rows }: Sheet): void {
   }
 }
 
-/** The file of a workbook. */
-export async function workbookOf(sheets: readonly Sheet[]): Promise<Blob> {
+/** The file of a workbook, which a worker packs. */
+export async function workbookOf(boards: Boards, sheets: readonly Sheet[]): Promise<Blob> {
   sheets.forEach(checkSize);
-  const zip = new JSZip();
-  for (const [path, text] of Object.entries(partsOf(sheets))) zip.file(path, text, { date: DATE });
-  return zip.generateAsync({ type: "blob", compression: "DEFLATE", mimeType: BLOB });
+  return new Blob([await boards.ask("pack", partsOf(sheets)).answer], { type: BLOB });
 }

@@ -23,6 +23,11 @@ interface Column {
   readonly head: string;
   readonly cells: readonly string[];
   readonly filled: readonly string[];
+  /** The whole number in each cell, or null; and the sums of the first ones: of none, of one, and on. */
+  readonly values: readonly (number | null)[];
+  readonly sums: readonly number[];
+  /** The places of the numbers. A total may stand in each row of its chair, and counts in the first. */
+  readonly places: readonly number[];
   readonly wholes: number;
   readonly texts: number;
 }
@@ -84,9 +89,13 @@ function columnsOf(sheet: Sheet, header: number, thousands: Thousands): Column[]
   return Array.from({ length: sheet.width }, (_, at) => {
     const cells = body.map((row) => withoutMarks(row[at] ?? ""));
     const filled = cells.filter((cell) => cell !== "");
-    const wholes = filled.filter((cell) => wholeOf(cell, thousands)).length;
+    const values = cells.map((cell) => wholeOf(cell, thousands)?.value ?? null);
+    let sum = 0;
+    const sums = [0, ...values.map((value) => (sum += value ?? 0))];
+    const places = values.flatMap((value, row) => (value === null || value === values[row - 1] ? [] : [row]));
+    const wholes = values.filter((it) => it !== null).length;
     const texts = filled.filter(isText).length;
-    return { at, head: withoutMarks(headOf(sheet, header, at)), cells, filled, wholes, texts };
+    return { at, head: withoutMarks(headOf(sheet, header, at)), cells, filled, values, sums, places, wholes, texts };
   });
 }
 
@@ -127,36 +136,28 @@ function isTexts({ filled, texts }: Column): boolean {
   return filled.length > 0 && 2 * texts >= filled.length;
 }
 
-function valuesOf({ cells }: Column, thousands: Thousands): (number | null)[] {
-  return cells.map((cell) => wholeOf(cell, thousands)?.value ?? null);
-}
-
 /** Whether at least half of the numbers of a column equal the sum of the votes from one of its rows to the next. */
-function sumsFit(totals: Column, votes: Column, thousands: Thousands): boolean {
-  const own = valuesOf(votes, thousands).map((value) => value ?? 0);
-  const values = valuesOf(totals, thousands);
-  // A total may stand in each row of its chair.
-  const printed = values.map((value, at) => (value === values[at - 1] ? null : value));
-  const places = printed.flatMap((value, at) => (value === null ? [] : [at]));
-  const sum = (from: number, to: number) => own.slice(from, to).reduce((all, value) => all + value, 0);
-  const below = places.filter((at, place) => printed[at] === sum(at, places[place + 1] ?? own.length)).length;
-  const above = places.filter((at, place) => printed[at] === sum((places[place - 1] ?? -1) + 1, at + 1)).length;
-  return places.length < votes.wholes && 2 * Math.max(below, above) >= places.length;
+function sumsFit({ values, places }: Column, { sums, wholes }: Column): boolean {
+  if (places.length >= wholes) return false;
+  const sum = (from: number, to: number) => (sums[to] ?? 0) - (sums[from] ?? 0);
+  const below = places.filter((at, place) => values[at] === sum(at, places[place + 1] ?? values.length)).length;
+  const above = places.filter((at, place) => values[at] === sum((places[place - 1] ?? -1) + 1, at + 1)).length;
+  return 2 * Math.max(below, above) >= places.length;
 }
 
 /** Whether a column has the printed totals of chairs next to a column of votes. */
-function isChairTotals(column: Column, votes: Column, thousands: Thousands): boolean {
+function isChairTotals(column: Column, votes: Column): boolean {
   if (column === votes) return false;
   const isHeaded = TOTAL_HEAD.test(column.head) && VOTES_HEAD.test(votes.head);
-  return sumsFit(column, votes, thousands) || (column.wholes < votes.wholes && isHeaded);
+  return sumsFit(column, votes) || (column.wholes < votes.wholes && isHeaded);
 }
 
 /** The columns that may be the votes, with the one of printed totals, -1 if there is none. */
-function votesOf(columns: readonly Column[], thousands: Thousands): { maybe: Column[]; total: number } {
+function votesOf(columns: readonly Column[]): { maybe: Column[]; total: number } {
   const named = columns.filter(({ head }) => VOTES_HEAD.test(head));
   const dense = Math.max(0, ...columns.map(({ wholes }) => wholes));
   const full = columns.filter(({ wholes }) => 3 * wholes >= 2 * dense);
-  const total = columns.find((column) => full.some((votes) => isChairTotals(column, votes, thousands)));
+  const total = columns.find((column) => full.some((votes) => isChairTotals(column, votes)));
   const rest = full.filter((column) => column !== total);
   // A column without a heading next to one of votes may have the rest of its numbers.
   const nameless = rest.filter(({ head }) => head === "");
@@ -189,7 +190,7 @@ class Assigned {
 }
 
 /** The columns of numbers: votes, printed totals and the chairs' numbers. Returns those that may be the votes. */
-function giveNumbers(assigned: Assigned, columns: readonly Column[], thousands: Thousands): number[] {
+function giveNumbers(assigned: Assigned, columns: readonly Column[]): number[] {
   const wholes = assigned.free(columns).filter((it) => isWhole(it) && !OTHER_HEAD.test(it.head));
   const isChair = (it: Column) =>
     CHAIR_HEAD.test(it.head) && !/vote|voting|total|sum/i.test(it.head) && most(it.filled, isChairNumber);
@@ -199,7 +200,7 @@ function giveNumbers(assigned: Assigned, columns: readonly Column[], thousands: 
   const numbers = wholes.filter((it) => it !== chair && (counts.length === wholes.length || !counts.includes(it)));
   const large = numbers.filter(({ head, filled }) =>
     VOTES_HEAD.test(head) || (!NAME_HEAD.test(head) && !filled.every(isChairNumber)));
-  const { maybe, total } = votesOf(large, thousands);
+  const { maybe, total } = votesOf(large);
   if (maybe.length === 1) assigned.give("votes", maybe[0]);
   assigned.give("chairTotal", columns.find(({ at }) => at === total));
   return maybe.length > 1 ? maybe.map(({ at }) => at) : [];
@@ -259,7 +260,7 @@ export function layoutWith(sheet: Sheet, header: number, thousands: Thousands): 
   assigned.give("suspended", columns.find(({ head }) => SUSPENDED_HEAD.test(head)));
   const percents = assigned.free(columns).filter(isPercentColumn);
   const rest = columns.filter((it) => !percents.includes(it));
-  const votesMaybe = giveNumbers(assigned, rest, thousands);
+  const votesMaybe = giveNumbers(assigned, rest);
   const unread = votesMaybe.length ? [] : assigned.free(rest).filter((it) => VOTES_HEAD.test(it.head) && isWhole(it));
   giveTexts(assigned, rest, sheet, header);
   if (header === 0) assigned.give("chair", assigned.free(rest).find((it) => isWhole(it) && isChairNumbers(it)));

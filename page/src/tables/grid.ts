@@ -1,9 +1,10 @@
 /** Cells that span several rows or columns, laid out as a grid. */
-import { CellCount } from "./limits";
+import { CellCount, checkColumns, MOST_COLUMNS } from "./limits";
 
-/** A cell of a row, and how many rows and columns it spans. */
+/** A cell of a row, how many rows and columns it spans, and its text in the rows below if that is another one. */
 export interface SpanningCell {
   readonly text: string;
+  readonly below?: string;
   readonly rows: number;
   readonly columns: number;
 }
@@ -14,9 +15,8 @@ export interface Grid {
   readonly filled: number;
 }
 
-/** More rows or columns than this are no table of members. */
+/** More rows than this are no table of members. */
 export const MOST_ROWS = 5000;
-const MOST_COLUMNS = 200;
 
 /** Lays out rows of cells as a web page does. A cell over several rows is in each of them, at its first column. */
 export function gridOf(rows: readonly (readonly SpanningCell[])[]): Grid {
@@ -25,15 +25,16 @@ export function gridOf(rows: readonly (readonly SpanningCell[])[]): Grid {
   let filled = 0;
   rows.forEach((cells, top) => {
     let left = 0;
-    for (const { text, rows: high, columns: wide } of cells) {
+    for (const { text, below = text, rows: high, columns: wide } of cells) {
       while (grid[top]?.[left] !== undefined) left += 1;
+      checkColumns(left + 1);
       count.add(Math.min(high, grid.length - top) * Math.min(wide, MOST_COLUMNS));
       for (let row = top; row < Math.min(top + high, grid.length); row += 1) {
         for (let column = left; column < Math.min(left + wide, MOST_COLUMNS); column += 1) {
           const line = grid[row];
-          if (line) line[column] = column === left ? text : "";
+          if (line) line[column] = column > left ? "" : row > top ? below : text;
         }
-        if (row > top && text !== "") filled += 1;
+        if (row > top && below !== "") filled += 1;
       }
     }
   });

@@ -1,6 +1,7 @@
 /** Tables of web pages, and of the HTML that spreadsheets put on the clipboard, as sheets. */
 import { filledNotice, gridOf, MOST_ROWS, type SpanningCell } from "./grid";
-import { checkTags } from "./limits";
+import { checkLetters, checkTags, MOST_TABLE_TAGS } from "./limits";
+import { NOTHING, strikes, StruckTags, struckIn, textOfRuns, type Run, type Text } from "./struck";
 import { sheetOfCells } from "./text";
 import { Unreadable, type NamedSheet } from "./types";
 
@@ -12,14 +13,30 @@ const MOST_DEEP = 20;
 
 const RAISED = "\u2070\u00b9\u00b2\u00b3\u2074\u2075\u2076\u2077\u2078\u2079";
 
-/** The text of a cell: raised digits stay raised, so that a footnote's number doesn't become part of a number. */
-function textOf(node: Node): string {
-  const { nodeName } = node;
-  if (node.nodeType === 3) return (node.textContent ?? "").replace(/[ \t\r\n]+/g, " ");
-  if (nodeName === "BR") return "\n";
-  if (nodeName === "STYLE" || nodeName === "SCRIPT") return "";
-  const text = [...node.childNodes].map(textOf).join("");
-  return nodeName === "SUP" ? text.replace(/[0-9]/g, (digit) => RAISED[Number(digit)] ?? "") : text;
+/** HTML with raised digits as such, so that a footnote's number doesn't become part of a number; entities stay. */
+function raised(html: string): string {
+  const digits = (text: string) => text.replace(/&[^;\s]{1,9};|[0-9]/g, (it) => RAISED[Number(it)] ?? it);
+  const whole = /<sup>([^<]*(?:<\/?s>[^<]*)*)<\/sup>/g;
+  return html.replace(whole, (_, text) => digits(String(text))).replace(/<\/?sup>/g, "");
+}
+
+/** The mark of an element of a table that is struck out, and all elements that are. */
+const STRUCK = "data-struck";
+const STRUCK_ONES = `s, del, strike, [${STRUCK}]`;
+
+/** The parts of a cell's text. A tag that has `<` in an attribute still has its style. */
+function runsOf(node: Node, isOut: boolean): Run[] {
+  if (node.nodeType === 3) return [[(node.textContent ?? "").replace(/[ \t\r\n]+/g, " "), isOut]];
+  if (node.nodeName === "BR") return [["\n", isOut]];
+  if (node.nodeType !== 1) return [];
+  const element = node as Element;
+  const isAllOut = isOut || element.matches(STRUCK_ONES) || strikes(element.getAttribute("style") ?? "");
+  return [...node.childNodes].flatMap((it) => runsOf(it, isAllOut));
+}
+
+function textOf(cell: Element): Text {
+  const { all, left, out } = textOfRuns(runsOf(cell, cell.closest(STRUCK_ONES) !== null));
+  return { all: all.trim(), left: left.replace(/ {2,}/g, " ").trim(), out: out.trim() };
 }
 
 function spanOf(cell: Element, name: string): number {
@@ -27,16 +44,23 @@ function spanOf(cell: Element, name: string): number {
   return Number.isInteger(span) && span > 0 ? Math.min(span, MOST_ROWS) : 1;
 }
 
-function cellOf(cell: Element): SpanningCell {
-  return { text: textOf(cell).trim(), rows: spanOf(cell, "rowspan"), columns: spanOf(cell, "colspan") };
+/** A cell with its text, or with what is left of it where something else of its row isn't struck out. */
+function cellOf(cell: Element, { all, left }: Text, isRowOut: boolean): SpanningCell {
+  const [rows, columns] = [spanOf(cell, "rowspan"), spanOf(cell, "colspan")];
+  return { text: isRowOut ? all : left, below: left, rows, columns };
 }
 
-function sheetOfTable(table: Element, place: number): NamedSheet {
+function sheetOfTable(table: Element, place: number, notices: readonly string[]): NamedSheet {
   const own = [...table.querySelectorAll("tr")].filter((row) => row.closest("table") === table);
   const rows = own.slice(0, MOST_ROWS).map((row) => [...row.children].filter((it) => /^T[DH]$/.test(it.nodeName)));
-  const { cells, filled } = gridOf(rows.map((row) => row.map(cellOf)));
+  const texts = rows.map((row) => row.map(textOf));
+  const struck = struckIn(texts);
+  const spanning = rows.map((row, at) =>
+    row.map((it, column) => cellOf(it, texts[at]?.[column] ?? NOTHING, struck.get(at) === "")));
+  const { cells, filled } = gridOf(spanning);
   const caption = table.querySelector("caption")?.textContent?.trim();
-  return { name: caption || `Table ${place + 1}`, sheet: sheetOfCells(cells, "", filledNotice(filled)) };
+  const sheet = sheetOfCells(cells, "", [...notices, ...filledNotice(filled)], struck);
+  return { name: caption || `Table ${place + 1}`, sheet };
 }
 
 /** HTML without the parts between a start and its end; what has no end goes on to the last letter. */
@@ -54,26 +78,34 @@ function without(html: string, start: RegExp, endOf: (start: string) => string):
 }
 
 /** A tag, if a table needs it: without styles and scripts, which the page's policy forbids. */
-function bareTag(tag: string, name: string): string {
-  if (/^(p|div|li)$/i.test(name)) return tag.startsWith("</") ? "<br>" : "";
-  if (/^(table|caption|t(head|body|foot|r|d|h)|br|sup)$/i.test(name)) {
-    return tag.replace(/\s(style|on[a-z]+)\s*=\s*("[^"]*"|'[^']*')/gi, "");
+function bareTag(tag: string, name: string, struck: StruckTags): string {
+  const isEnd = tag.startsWith("</");
+  if (/^(table|caption|t(head|body|foot|r|d|h)|br)$/i.test(name)) {
+    if (!/^br$/i.test(name)) struck.cut();
+    const own = tag.replace(/\s(style|on[a-z]+)\s*=\s*("[^"]*"|'[^']*')/gi, "");
+    return !isEnd && struck.isStruck(tag, name) ? own.replace(/^<[a-z]+/i, `$& ${STRUCK}`) : own;
   }
-  return "";
+  const around = struck.around(tag, name);
+  if (/^(p|div|li)$/i.test(name)) return isEnd ? `${around}<br>` : around;
+  if (/^sup$/i.test(name)) return isEnd ? `${around}</sup>` : `<sup>${around}`;
+  return around;
 }
 
 /** HTML without all that no table needs. Each letter is looked at a few times at most. */
 export function bare(html: string): string {
   const told = without(html, /<!--/g, () => "-->");
   const plain = without(told, /<(style|script)\b/gi, (start) => `</${start.slice(1)}\\s*>`);
-  const left = plain.replace(/<\/?([a-z][a-z0-9:-]*)\b(?:[^"'<>]|"[^"<]*"|'[^'<]*')*>/gi, bareTag);
+  const struck = new StruckTags(html);
+  const left = raised(plain.replace(/<\/?([a-z][a-z0-9:-]*)\b(?:[^"'<>]|"[^"<]*"|'[^'<]*')*>/gi,
+    (tag: string, name: string) => bareTag(tag, name, struck)));
   checkTables(left);
   return left;
 }
 
-/** Refuses very many tags, and tables in tables, which a browser takes long to read. */
+/** Refuses what a browser takes long to read: very many tags or letters, and tables in tables. */
 function checkTables(html: string): void {
-  checkTags(html, "This page");
+  checkTags(html, "This page", MOST_TABLE_TAGS);
+  checkLetters(html, "This page");
   let deep = 0;
   for (const [tag = ""] of html.matchAll(/<\/?table\b/gi)) {
     deep = Math.max(0, deep + (tag.startsWith("</") ? -1 : 1));
@@ -81,15 +113,17 @@ function checkTables(html: string): void {
   }
 }
 
-/** The tables of a page that have several rows and columns. The page is bare. */
-export function sheetsOfHtml(html: string, parse: Parse): NamedSheet[] {
+/** The tables of a page that have several rows and columns. The page is bare, and was read with these notices. */
+export function sheetsOfHtml(html: string, parse: Parse, notices: readonly string[] = []): NamedSheet[] {
   const tables = [...parse(html, "text/html").querySelectorAll("table")];
-  const sheets = tables.map(sheetOfTable).filter(({ sheet }) => sheet.width > 1 && sheet.rows.length > 1);
-  if (!sheets.length) throw new Unreadable("There is no table in this page.");
-  return sheets;
+  const sheets = tables.map((it, place) => sheetOfTable(it, place, notices));
+  const large = sheets.filter(({ sheet }) => sheet.width > 1 && sheet.rows.length > 1);
+  if (!large.length) throw new Unreadable("There is no table in this page.");
+  return large;
 }
 
-/** Whether HTML has a table with cells over several rows. */
-export function hasMergedCells(html: string): boolean {
-  return /<table\b/i.test(html) && /\browspan\s*=\s*["']?([2-9]|[1-9][0-9])/i.test(html);
+/** Whether HTML has a table of which its text alone doesn't say all: cells over several rows, or struck out. */
+export function saysMore(html: string): boolean {
+  const isMore = /\browspan\s*=\s*["']?([2-9]|[1-9][0-9])|<(s|del|strike)\b|\bline-through\b/i;
+  return /<table\b/i.test(html) && isMore.test(html);
 }

@@ -1,5 +1,6 @@
 /** Reads a sheet by its layout and the answers so far: a whole table, or what is wrong and what is open. */
 import { counted } from "../study/fractions";
+import { listed } from "../study/names";
 import { withoutAggregates, withoutLoose } from "./aggregates";
 import { columnName, columnNames, hasTwoHeaders } from "./columns";
 import { seated, type AlternateHead, type Seated } from "./chairs";
@@ -16,7 +17,7 @@ import { askSums, withSums } from "./sums";
 import { askSuspensions } from "./suspensions";
 import { withHeadings, withTotals } from "./totals";
 import {
-  MEANING_WORDS, type Answers, type CellFault, type Layout, type ReadTable, type Sheet, type TableMember,
+  MEANING_WORDS, type Answers, type CellFault, type Layout, type ReadTable, type Sheet, type Struck, type TableMember,
 } from "./types";
 
 /** What a row is in words, if it isn't a member. */
@@ -193,21 +194,32 @@ function withSuspensions(lines: readonly Line[], rows: ReadonlySet<number>): Lin
   return lines.map((line) => (rows.has(line.row) ? { ...line, cells: { ...line.cells, suspended: "true" } } : line));
 }
 
-/** The rows without those that are struck out in a workbook, if they are to be left out. */
-function withoutStruck({ struck = [] }: Sheet, lines: readonly Line[], questions: Questions): readonly Line[] {
-  const rows = lines.filter(({ row }) => struck.includes(row)).map(({ row }) => row);
-  if (!rows.length) return lines;
-  const words = rowsWords(rows);
+/** Asks whether rows count in which something is struck out. Returns those that don't. */
+function askStruck(id: string, head: string, read: string, rows: readonly Struck[], questions: Questions): number[] {
+  if (!rows.length) return [];
+  const parts = listed(rows.flatMap(({ row, words }) => (words ? [`'${words}' in row ${row}`] : [])));
+  const which = rowsWords(rows.map(({ row }) => row)) + (parts && ` (${parts})`);
   const answer = questions.ask({
-    id: "struck",
+    id,
     kind: "struck",
-    words: `Struck out: ${words}. Do they count?`,
+    words: `${head}: ${which}. Do they count?`,
     options: [
-      { key: "no", words: "No: leave them out", choice: `Struck out in the workbook, and left out: ${words}` },
-      { key: "yes", words: "Yes: read them like the others", choice: `Struck out in the workbook, and read: ${words}` },
+      { key: "no", words: "No: leave them out", choice: `${head} in the table, and left out: ${which}` },
+      { key: "yes", words: `Yes: read ${read}`, choice: `${head} in the table, and read: ${which}` },
     ],
   });
-  return answer === "yes" ? lines : lines.filter(({ row }) => !rows.includes(row));
+  return answer === "yes" ? [] : rows.map(({ row }) => row);
+}
+
+/** The rows without those that are struck out, as a whole or in part, if they are to be left out. */
+function withoutStruck({ struck = [] }: Sheet, lines: readonly Line[], questions: Questions): readonly Line[] {
+  const own = struck.filter((it) => lines.some(({ row }) => row === it.row));
+  const [whole, part] = [own.filter(({ words }) => !words), own.filter(({ words }) => words)];
+  const out = new Set([
+    ...askStruck("struck", "Struck out", "them like the others", whole, questions),
+    ...askStruck("struck-part", "Struck out in part", "what isn't struck out", part, questions),
+  ]);
+  return lines.filter(({ row }) => !out.has(row));
 }
 
 /** Finds totals, headings and chairs, and asks about them. */

@@ -7,7 +7,7 @@ import { CHAIRS } from "../study/words";
 import { freeCodes, memberKey } from "./codes";
 import type { TableBase, TableMember } from "./types";
 
-/** A command, with the name of the member that it admits or of the chair that it opens. */
+/** A command, with the name of the new member that it is about, or of the chair that it opens. */
 export interface Step {
   readonly what: Command;
   readonly name?: string;
@@ -34,7 +34,9 @@ type Pair = readonly [own: Place, other: TableMember];
 function pairsOf(members: readonly Place[], others: readonly TableMember[]): Pair[] {
   const named = new Map(members.filter((it) => it.name).map((it) => [memberKey(it.name), it]));
   const byName = others.flatMap((it): Pair[] => {
-    const own = it.name ? named.get(memberKey(it.name)) : undefined;
+    const key = it.name ? memberKey(it.name) : "";
+    const own = named.get(key);
+    named.delete(key);
     return own ? [[own, it]] : [];
   });
   const met = new Set(byName.flat());
@@ -126,6 +128,16 @@ function stepsOf(both: Both): Step[] {
     ...gone, ...pairs.flatMap(([own, other]) => (moving.has(own) || !other.suspended ? own : [])),
   ].filter((it) => it.suspended));
   const entered: Pair[] = added.map((it) => [{ ...it, chair: null, suspended: false }, it]);
+  const last: Step[] = [
+    ...added.map(({ code, votes }): Step => ({ what: { kind: "admit", code, votes } })),
+    ...[...moves, ...entered].flatMap(([own, other]) => {
+      const chair = both.seat(other);
+      return now(own) === chair ? [] : move(own.code, chair);
+    }),
+    ...[...pairs, ...entered].flatMap(([own, { suspended }]): Step[] =>
+      suspended && (!own.suspended || restored.has(own)) ? [{ what: { kind: "suspend", code: own.code } }] : []),
+  ];
+  const names = new Map(added.map(({ code, name }) => [code, name]));
   return [
     ...[...restored].map(({ code }): Step => ({ what: { kind: "restore", code } })),
     ...gone.flatMap(({ code, chair }): Step[] => [
@@ -139,15 +151,10 @@ function stepsOf(both: Both): Step[] {
     }),
     ...pairs.flatMap(([{ code, votes }, other]): Step[] =>
       votes === other.votes ? [] : [{ what: { kind: "votes", code, votes: other.votes } }]),
-    ...added.map(({ code, votes, name }): Step => {
-      return { what: { kind: "admit", code, votes }, ...(name ? { name } : {}) };
+    ...last.map((it): Step => {
+      const name = names.get(it.what.code ?? "");
+      return name ? { ...it, name } : it;
     }),
-    ...[...moves, ...entered].flatMap(([own, other]) => {
-      const chair = both.seat(other);
-      return now(own) === chair ? [] : move(own.code, chair);
-    }),
-    ...[...pairs, ...entered].flatMap(([own, { suspended }]): Step[] =>
-      suspended && (!own.suspended || restored.has(own)) ? [{ what: { kind: "suspend", code: own.code } }] : []),
   ];
 }
 

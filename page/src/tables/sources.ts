@@ -24,7 +24,7 @@ export type Given = { readonly bytes: ArrayBuffer } | { readonly text: string } 
 export type Contents =
   | { readonly kind: "study"; readonly json: string }
   | { readonly kind: "script"; readonly text: string }
-  | { readonly kind: "page"; readonly html: string; readonly content: string }
+  | Pick<Source, "notices"> & { readonly kind: "page"; readonly html: string; readonly content: string }
   | Pick<Source, "sheets" | "text" | "notices"> & { readonly kind: "table" };
 
 /** Whether a text is a web page, or HTML of a clipboard. */
@@ -54,7 +54,7 @@ export function contentsOf(given: Given): Contents {
   const { text, notices } = "bytes" in given ? textOfBytes(given.bytes) : { ...given, notices: [] };
   if (isHtml(text)) {
     const json = studyIn(text);
-    return json === null ? { kind: "page", html: bare(text), content: text } : { kind: "study", json };
+    return json === null ? { kind: "page", html: bare(text), content: text, notices } : { kind: "study", json };
   }
   if (isData(text)) return { kind: "study", json: text };
   if (isScript(text)) return { kind: "script", text };

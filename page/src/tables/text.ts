@@ -1,16 +1,13 @@
 /** Texts with tabs, semicolons or commas between cells, as sheets. */
 import { dsvFormat } from "d3-dsv";
 import { counted } from "../study/fractions";
-import { countUpTo, MOST_LINES } from "./limits";
+import { checkCells, checkColumns, checkLetters, countUpTo, MOST_LINES, MOST_TABLE_ROWS } from "./limits";
 import { splitLines } from "./lines";
 import { Unreadable, type Sheet } from "./types";
 
 /** What may separate the cells of a text. */
 export const DELIMITERS = ["\t", ";", ","] as const;
 export const DELIMITER_WORDS: Readonly<Record<string, string>> = { "\t": "tab", ";": "semicolon", ",": "comma" };
-
-/** More rows than this are no table of members, even with totals, notes and empty rows. */
-const MOST_ROWS = 2000;
 
 /** A text with its quoted cells emptied. */
 function emptied(text: string, delimiters: string): string {
@@ -39,12 +36,13 @@ function checkQuotes(text: string, delimiter: string): void {
   throw new Unreadable(`row ${row}: a quoted cell isn't closed, or something follows its quotes`);
 }
 
-/** Cells without blanks around them, and without empty rows at the end, as a sheet. Struck rows count from 0. */
+/** Cells without blanks around them, and without empty rows at the end, as a sheet. What is struck out has its row,
+ * which counts from 0. */
 export function sheetOfCells(
   cells: readonly (readonly string[])[],
   delimiter = "",
   notices: readonly string[] = [],
-  struck: ReadonlySet<number> = new Set(),
+  struck: ReadonlyMap<number, string> = new Map(),
 ): Sheet {
   const trimmed = cells.map((row) => row.map((cell) => cell.trim()));
   const { rows: split, from, to, origins } = splitLines(trimmed);
@@ -52,11 +50,20 @@ export function sheetOfCells(
   const said = from ? [`Cells of several lines: ${became}`] : [];
   const rows = [...split];
   while (rows.length > 0 && rows[rows.length - 1]?.every((cell) => cell === "")) rows.pop();
-  if (rows.length > MOST_ROWS) {
+  if (rows.length > MOST_TABLE_ROWS) {
     throw new Unreadable(`This table has ${counted(rows.length, "row")}, and a board has at most 256 members.`);
   }
-  const width = rows.reduce((most, row) => Math.max(most, row.length), 0);
-  const out = origins.flatMap((origin, at) => (struck.has(origin) ? [at + 1] : []));
+  // Empty columns at the right end aren't counted.
+  const width = rows.reduce((most, row) => {
+    const more = row.slice(most).reverse().findIndex((cell) => cell !== "");
+    return more < 0 ? most : row.length - more;
+  }, 0);
+  checkColumns(width);
+  checkCells(width * rows.length);
+  const out = origins.flatMap((origin, at) => {
+    const words = struck.get(origin);
+    return words === undefined ? [] : [{ row: at + 1, words }];
+  });
   return { rows, width, delimiter, notices: [...notices, ...said], ...(out.length ? { struck: out } : {}) };
 }
 
@@ -73,8 +80,10 @@ function checkKind(text: string): void {
 }
 
 /** Refuses a text that is no table. */
-function checkCells({ rows, width }: Sheet): void {
-  if (width < 2) throw new Unreadable("This text has no columns: no tabs, semicolons or commas separate cells in it.");
+function checkTable({ rows }: Sheet): void {
+  if (rows.every((row) => row.length < 2)) {
+    throw new Unreadable("This text has no columns: no tabs, semicolons or commas separate cells in it.");
+  }
   if (!rows.some((row) => row.some((cell) => /\p{Nd}/u.test(cell)))) {
     throw new Unreadable("There are no numbers in this text, and a table of members has votes.");
   }
@@ -83,6 +92,7 @@ function checkCells({ rows, width }: Sheet): void {
 /** The cells of a text, separated as it seems or by the delimiter that is given. */
 export function sheetOf(text: string, notices: readonly string[] = [], given?: string): Sheet {
   const plain = text.replace(/^\ufeff/, "");
+  checkLetters(plain, "This text");
   if (countUpTo(plain, "\n", MOST_LINES) > MOST_LINES) {
     throw new Unreadable(`This text has more than ${counted(MOST_LINES, "line")}; a board has at most 256 members.`);
   }
@@ -90,6 +100,6 @@ export function sheetOf(text: string, notices: readonly string[] = [], given?: s
   const delimiter = given ?? delimiterOf(plain);
   checkQuotes(plain, delimiter);
   const sheet = sheetOfCells(dsvFormat(delimiter).parseRows(plain), delimiter, notices);
-  if (given === undefined) checkCells(sheet);
+  if (given === undefined) checkTable(sheet);
   return sheet;
 }

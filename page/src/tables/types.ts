@@ -14,6 +14,12 @@ export const MEANING_WORDS: Readonly<Record<Meaning, string>> = {
   suspended: "Suspended",
 };
 
+/** A row in which something is struck out, and what it is; nothing if it is all of the row. */
+export interface Struck {
+  readonly row: number;
+  readonly words: string;
+}
+
 /** A table as cells without blanks around them. Row n of the sheet is `rows[n - 1]`. */
 export interface Sheet {
   readonly rows: readonly (readonly string[])[];
@@ -22,8 +28,8 @@ export interface Sheet {
   readonly delimiter: string;
   /** How the sheet was read, each a sentence. */
   readonly notices: readonly string[];
-  /** The rows of which all cells are struck out. */
-  readonly struck?: readonly number[];
+  /** What is struck out. It isn't in the cells, but those of a row that is struck out as a whole. */
+  readonly struck?: readonly Struck[];
 }
 
 /** A sheet of a workbook, or a table of a web page. */
@@ -66,7 +72,7 @@ export type QuestionKind =
   | "sums" // printed totals of chairs that differ from the sums
   | "repeat" // the same name twice
   | "aggregate" // a row that may be the sum of members, such as a group or a region
-  | "struck" // rows that are struck out
+  | "struck" // rows that are struck out, or in which something is
   | "similar" // names of chairs that are nearly equal
   | "outside" // votes that the table leaves out
   | "suspended"; // words on a suspension outside of its column

@@ -1,11 +1,11 @@
 /** Workbooks of Excel (.xlsx) as sheets, from their unpacked parts. */
 import { filledNotice, MOST_ROWS } from "./grid";
-import { CellCount } from "./limits";
+import { CellCount, MOST_COLUMNS } from "./limits";
+import { NOTHING, struckIn, textOfRuns, type Text } from "./struck";
 import { sheetOfCells } from "./text";
 import { Unreadable, type NamedSheet } from "./types";
 import { xmlOf, type Element } from "./xml";
 
-const MOST_COLUMNS = 200;
 /** The sheets of the workbook that the page exports. */
 const OWN_SHEETS = "Shown,Table,Fractions,Source";
 /** The built-in formats of numbers that are dates, times and per cent. */
@@ -15,9 +15,13 @@ const DAY = 86_400_000;
 
 type Format = "date" | "percent" | "plain";
 
+/** A part of a text, and its own font if it has one. */
+type FontRun = readonly [text: string, font: Element | undefined];
+
 /** What the cells of all sheets refer to. */
 interface Shared {
-  readonly texts: readonly string[];
+  /** Texts by whether their cell's font is struck out: in a cell whose font isn't, and in one whose font is. */
+  readonly texts: readonly (readonly [plain: Text, struck: Text])[];
   readonly formats: readonly Format[];
   /** Whether the font of each format is struck out. */
   readonly struck: readonly boolean[];
@@ -25,12 +29,23 @@ interface Shared {
   readonly epoch: number;
 }
 
-/** The text of a string with formats in it, without what says how it is pronounced. */
-function richText(node: Element): string {
-  return node.children.map((it) => {
-    if (typeof it === "string" || it.name === "rPh") return "";
-    return it.name === "t" ? it.text() : richText(it);
-  }).join("");
+/** The parts of a string with formats in it, without what says how it is pronounced. */
+function runsOf(node: Element): FontRun[] {
+  const elements = node.children.flatMap((it) => (typeof it === "string" ? [] : [it]));
+  const font = elements.find(({ name }) => name === "rPr");
+  return elements.flatMap((it): FontRun[] => {
+    if (it.name === "rPh") return [];
+    return it.name === "t" ? [[it.text(), font]] : runsOf(it);
+  });
+}
+
+function isStruck(font: Element): boolean {
+  return font.all("strike").some((it) => !/^(0|false)$/.test(it.attribute("val") ?? "1"));
+}
+
+/** The text of a cell whose own font is struck out or not. */
+function textOf(runs: readonly FontRun[], isOut: boolean): Text {
+  return textOfRuns(runs.map(([text, font]) => [text, font ? isStruck(font) : isOut]));
 }
 
 function formatOf(id: number, custom: ReadonlyMap<number, string>): Format {
@@ -48,8 +63,7 @@ function formatsOf(styles: Element): Format[] {
 
 /** Whether each format of cells has a font that is struck out. */
 function struckOf(styles: Element): boolean[] {
-  const isOn = (it: Element) => !/^(0|false)$/.test(it.attribute("val") ?? "1");
-  const fonts = (styles.all("fonts")[0]?.all("font") ?? []).map((it) => it.all("strike").some(isOn));
+  const fonts = (styles.all("fonts")[0]?.all("font") ?? []).map(isStruck);
   const formats = styles.all("cellXfs")[0]?.all("xf") ?? [];
   return formats.map((it) => fonts[Number(it.attribute("fontId") ?? "0")] ?? false);
 }
@@ -69,16 +83,19 @@ function numberText(text: string, format: Format, epoch: number): string {
   return Number.isInteger(value) && Math.abs(value) < 2 ** 53 ? String(value) : String(Number(value.toPrecision(15)));
 }
 
-function cellText(cell: Element, { texts, formats, epoch }: Shared): string {
+function cellText(cell: Element, { texts, formats, struck, epoch }: Shared): Text {
+  const style = Number(cell.attribute("s") ?? "0");
+  const isOut = struck[style] ?? false;
+  const plain = (text: string) => textOf([[text, undefined]], isOut);
   const value = cell.all("v")[0]?.text() ?? "";
   switch (cell.attribute("t")) {
-    case "s": return texts[Number(value)] ?? "";
-    case "inlineStr": return cell.all("is").map(richText).join("");
-    case "b": return value === "1" ? "true" : "false";
+    case "s": return texts[Number(value)]?.[isOut ? 1 : 0] ?? NOTHING;
+    case "inlineStr": return textOf(cell.all("is").flatMap(runsOf), isOut);
+    case "b": return plain(value === "1" ? "true" : "false");
     case "str":
     case "e":
-    case "d": return value;
-    default: return numberText(value, formats[Number(cell.attribute("s") ?? "0")] ?? "plain", epoch);
+    case "d": return plain(value);
+    default: return plain(numberText(value, formats[style] ?? "plain", epoch));
   }
 }
 
@@ -93,17 +110,17 @@ function isInside({ row, column }: { row: number; column: number }): boolean {
   return row >= 0 && column >= 0 && row < MOST_ROWS && column < MOST_COLUMNS;
 }
 
-/** Fills merged cells down in a grid. Returns into how many cells. */
-function fillMerged(grid: string[][], sheet: Element): number {
+/** Fills merged cells down in a grid, without what is struck out. Returns into how many cells. */
+function fillMerged(grid: Text[][], sheet: Element): number {
   let filled = 0;
   const count = new CellCount();
   for (const merged of sheet.all("mergeCell")) {
     const [first = "", last = ""] = (merged.attribute("ref") ?? "").split(":");
     const [from, to] = [placeOf(first), placeOf(last)];
-    const text = grid[from.row]?.[from.column] ?? "";
+    const text = grid[from.row]?.[from.column]?.left ?? "";
     for (let row = from.row + 1; text !== "" && isInside(from) && row <= Math.min(to.row, grid.length - 1); row += 1) {
       const line = grid[row];
-      if (line) line[from.column] = text;
+      if (line) line[from.column] = { all: text, left: text, out: "" };
       filled += 1;
       count.add(1);
     }
@@ -117,16 +134,9 @@ function hiddenNotice(sheet: Element): string[] {
   return hidden.length ? [`Hidden rows were read like the others: ${rows}`] : [];
 }
 
-/** The cells of a sheet, into how many merged cells were filled, and the rows that are struck out, from 0. */
-interface Laid {
-  readonly grid: string[][];
-  readonly filled: number;
-  readonly struck: ReadonlySet<number>;
-}
-
-function cellsOf(sheet: Element, shared: Shared): Laid {
-  const grid: string[][] = [];
-  const [struck, plain] = [new Set<number>(), new Set<number>()];
+/** The cells of a sheet as they are laid out. */
+function gridOf(sheet: Element, shared: Shared): Text[][] {
+  const grid: Text[][] = [];
   const count = new CellCount();
   sheet.all("row").forEach((row, at) => {
     const number = Number(row.attribute("r") ?? grid.length + 1) - 1;
@@ -137,14 +147,10 @@ function cellsOf(sheet: Element, shared: Shared): Laid {
       count.add(1);
       while (grid.length <= to.row) grid.push([]);
       const line = grid[to.row];
-      const text = cellText(cell, shared);
-      if (line) line[to.column] = text;
-      if (text) (shared.struck[Number(cell.attribute("s") ?? "0")] ? struck : plain).add(to.row);
+      if (line) line[to.column] = cellText(cell, shared);
     });
   });
-  const filled = fillMerged(grid, sheet);
-  const rows = [...struck].filter((it) => !plain.has(it));
-  return { grid: grid.map((row) => Array.from(row, (cell) => cell ?? "")), filled, struck: new Set(rows) };
+  return grid;
 }
 
 /** The unpacked parts of a workbook by their paths; null for one that is larger than a table of members. */
@@ -163,7 +169,8 @@ function sharedOf(parts: Parts, workbook: Element): Shared {
   const [strings, styles] = [partOf(parts, `${FOLDER}sharedStrings.xml`), partOf(parts, `${FOLDER}styles.xml`)];
   const is1904 = workbook.all("workbookPr").some((it) => /^(1|true)$/.test(it.attribute("date1904") ?? ""));
   const epoch = is1904 ? -24107 : -25569;
-  return { texts: strings.all("si").map(richText), formats: formatsOf(styles), struck: struckOf(styles), epoch };
+  const texts = strings.all("si").map(runsOf).map((it) => [textOf(it, false), textOf(it, true)] as const);
+  return { texts, formats: formatsOf(styles), struck: struckOf(styles), epoch };
 }
 
 /** The path of each sheet's part by its relation. */
@@ -176,10 +183,14 @@ function targetsOf(parts: Parts): Map<string, string> {
 
 /** A sheet by its entry in the workbook and its cells. */
 function sheetOf(entry: Element, sheet: Element, shared: Shared): NamedSheet {
-  const { grid, filled, struck } = cellsOf(sheet, shared);
+  const grid = gridOf(sheet, shared);
+  const struck = struckIn(grid);
+  const filled = fillMerged(grid, sheet);
+  // Of a row that is struck out as a whole its texts are kept: it may count.
+  const cells = grid.map((row, at) => Array.from(row, (it = NOTHING) => (struck.get(at) === "" ? it.all : it.left)));
   const isHidden = (entry.attribute("state") ?? "visible") !== "visible";
   const name = `${entry.attribute("name") ?? ""}${isHidden ? " (hidden)" : ""}`;
-  return { name, sheet: sheetOfCells(grid, "", [...filledNotice(filled), ...hiddenNotice(sheet)], struck) };
+  return { name, sheet: sheetOfCells(cells, "", [...filledNotice(filled), ...hiddenNotice(sheet)], struck) };
 }
 
 /** The sheets of a workbook that have cells. Throws `Unreadable` with a sentence if there are none. */

@@ -6,7 +6,7 @@ import { Unreadable } from "./types";
 export class Element {
   readonly children: (Element | string)[] = [];
 
-  constructor(readonly name: string, readonly attributes: ReadonlyMap<string, string> = new Map()) {}
+  constructor(readonly name: string, readonly attributes: ReadonlyMap<string, string> = NONE) {}
 
   attribute(name: string): string | undefined {
     return this.attributes.get(name);
@@ -49,7 +49,10 @@ function skipped(text: string, at: number): { end: number; data: string } {
 
 const bareName = (name: string): string => name.slice(name.indexOf(":") + 1);
 
-function attributesOf(words: string): Map<string, string> {
+const NONE: ReadonlyMap<string, string> = new Map();
+
+function attributesOf(words: string): ReadonlyMap<string, string> {
+  if (!words.includes("=")) return NONE;
   const found = words.matchAll(/([^\s=]+)\s{0,9}=\s{0,9}("[^"]*"|'[^']*')/g);
   return new Map([...found].map(([, name = "", value = ""]) => [name, decoded(value.slice(1, -1))]));
 }

@@ -2,17 +2,14 @@
 import type { App } from "./app";
 import { grouped } from "../study/fractions";
 import { Cancelled } from "../engine/pausing";
-import { inSteps } from "../engine/pool";
 import { Refusal } from "../engine/problem";
 import { scriptOf } from "../study/script";
 import { hashOf } from "../study/made";
 import { readData, type StudyData } from "../study/studyData";
 import { studyOf, type Base } from "../study/study";
-import { isZip } from "../tables/bytes";
 import { sheetsOfHtml } from "../tables/html";
 import { checkSize } from "../tables/limits";
 import { contentsOf, type Contents, type Given, type Source } from "../tables/sources";
-import { partsOfXlsx } from "../tables/unzip";
 import { reasonOf } from "../study/words";
 import { refuse } from "./refusal";
 import { openTable } from "./tableDialog";
@@ -88,17 +85,16 @@ function wordsOf(why: unknown): string {
 const SHORT = 65_536;
 
 /** Reads what is given in a worker of its own, which ends if a person doesn't want to wait. */
-async function read(app: App, given: Given | Promise<Given>): Promise<Contents> {
+async function read(app: App, given: Given): Promise<Contents> {
   if ("text" in given && given.text.length < SHORT) return contentsOf(given);
-  const { boards } = app.counter;
-  return app.wait("The table is being read.", async () =>
-    inSteps(async (step) => step(boards.ask("read", await given))));
+  return app.wait("The table is being read.", async () => app.counter.boards.ask("read", given));
 }
 
 /** A table, for its preview. */
 function tableOf(name: string, found: Contents & { kind: "table" | "page" }, bytes: Uint8Array | null): Source {
   if (found.kind === "page") {
-    return { name, sheets: sheetsOfHtml(found.html, parsed), text: null, notices: [], content: found.content };
+    const { html, content, notices } = found;
+    return { name, sheets: sheetsOfHtml(html, parsed, notices), text: null, notices, content };
   }
   const { sheets, text, notices } = found;
   return { name, sheets, text, notices, content: text ?? bytes ?? "" };
@@ -140,10 +136,8 @@ interface Opened {
 
 async function opened(app: App, file: File): Promise<Opened> {
   checkSize(file.size);
-  const buffer = await file.arrayBuffer();
-  const bytes = new Uint8Array(buffer);
-  const given = isZip(bytes) ? partsOfXlsx(buffer).then((parts) => ({ parts })) : { bytes: buffer };
-  return { name: bareName(file.name), bytes, found: await read(app, given) };
+  const bytes = await file.arrayBuffer();
+  return { name: bareName(file.name), bytes: new Uint8Array(bytes), found: await read(app, { bytes }) };
 }
 
 async function takeFiles(app: App, files: readonly File[]): Promise<void> {

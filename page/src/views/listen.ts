@@ -8,7 +8,7 @@ import { keys } from "./keys";
 import { notes } from "./note";
 import { fitTables } from "./paper";
 import { sheets } from "./sheets";
-import { hasMergedCells } from "../tables/html";
+import { saysMore } from "../tables/html";
 import { withChanges } from "../study/study";
 import { openBest } from "./best";
 import { openExports, saveStudy } from "./exportDialog";
@@ -51,7 +51,7 @@ function takeFiles(app: App): void {
   document.addEventListener("paste", (event) => {
     const plain = event.clipboardData?.getData("text/plain") ?? "";
     const html = event.clipboardData?.getData("text/html") ?? "";
-    const isPlain = plain.includes("\n") && !hasMergedCells(html);
+    const isPlain = plain.includes("\n") && !saysMore(html);
     if (takesText(event.target) || (!isPlain && !/<table\b/i.test(html))) return;
     event.preventDefault();
     const open = document.querySelector("dialog[open] h2");

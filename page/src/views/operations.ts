@@ -84,7 +84,7 @@ function splitForm(app: App, id: string, codes: Codes, close: () => void): Child
   const open = app.shown?.counted.standing.open() ?? [];
   const lowest = closedChair(open);
   if (lowest === null) return h("p", { class: "wrong" }, `All ${MOST_CHAIRS} chairs are open: close one first.`);
-  const first: [string, string] = ["lowest", `${lowest}, the lowest not open`];
+  const first: [string, string] = ["lowest", `${lowest} (the lowest)`];
   const closed = CHAIRS.filter((it) => !open.includes(it)).map((it): [string, string] => [String(it), String(it)]);
   return choiceForm(id, "New chair", [first, ...closed], "Move", (choice) => {
     const found = codes();

@@ -313,7 +313,7 @@ export function widthsOf({ columns, view, isGain, hasAdded, majorities }: List):
   const least = columns.isOne ? "8rem" : `${panels * 5}rem`;
   const narrow = columns.isOne ? majorities.map(() => value).join(" ") : "";
   return [
-    `minmax(8rem, ${hasAdded ? 12 : 14}rem) 5rem ${share} minmax(${least}, 1fr)${many}`,
+    `minmax(8rem, ${hasAdded ? 12 : 14}rem) ${isGain ? 6 : 5}rem ${share} minmax(${least}, 1fr)${many}`,
     `minmax(0, 1fr) ${share} ${narrow}`,
   ];
 }

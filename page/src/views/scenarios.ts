@@ -60,21 +60,21 @@ function rows(app: App, scenario: Scenario): Child {
   const acts = buttons(app, scenario, study.scenarios[0] === scenario);
   const list = counted ? chairRows(counted, view) : [];
   const note = counted?.refused ? ` (${counted.refused} refused)` : "";
-  return view.majorities.map((majority, at) => {
+  const of = view.majorities.map((majority) => {
     const cells = (["gain", "loss"] as const).map((it) => (counted ? extremeCell(list, view, majority, it) : COUNTING));
     const empty = counted ? emptySentence(counted, majority) : null;
     return h("tr", { "data-scenario": scenario.name, "data-majority": majority },
-      at === 0 ? h(
-        "th",
-        { scope: "rowgroup", class: "text", rowspan: view.majorities.length },
-        h("bdi", {}, scenario.name),
-        note,
-      ) : null,
       h("td", { class: "text" }, MAJORITY[majority].label),
       empty ? h("td", { class: "text", colspan: 2 }, empty) : cells.map(cellOf),
-      at === 0 ? h("td", { class: "text", rowspan: view.majorities.length }, acts) : null,
     );
   });
+  return [
+    h("tr", {},
+      h("th", { scope: "rowgroup", class: "text" }, h("bdi", {}, scenario.name), note),
+      h("td", { colspan: 2 }, acts),
+    ),
+    ...of,
+  ];
 }
 
 const COUNTING: Said = { words: "counting", source: "" };
@@ -107,10 +107,10 @@ function form(app: App): HTMLElement {
 export function paintScenarios(app: App): void {
   const { scenarios } = app.study;
   const measure = MEASURE_NAMES[app.view.measure];
-  const heads = ["Scenario", "Majority", `Gains most, ${measure}`, `Loses most, ${measure}`, ""];
+  const heads = ["Scenario", `Gains most, ${measure}`, `Loses most, ${measure}`];
   const table = h("div", { class: "scroll", tabindex: 0, role: "region", "aria-label": "Scenarios side by side" },
     h("table", { id: "scenarios" },
-      h("thead", {}, h("tr", {}, heads.map((it) => (it ? h("th", { scope: "col", class: "text" }, it) : h("td", {}))))),
+      h("thead", {}, h("tr", {}, heads.map((it) => h("th", { scope: "col", class: "text" }, it)))),
       scenarios.map((it) => h("tbody", { "data-key": it.name }, rows(app, it))),
     ),
   );

@@ -12,7 +12,7 @@ import { lookedAt, type Looked } from "./coalitionParts";
 const NOTE =
   "How many coalitions of each number of chairs win, and how many there are, made here. The winning ones of all " +
   "numbers of chairs are added up, and the register counts them on its own. A coalition can block if the other " +
-  "chairs lose: of k of n chairs, as many block as there are, less the winning ones of n - k chairs.";
+  "chairs lose: of k of n chairs, as many block as there are, less the winning ones of n\u00a0\u2212\u00a0k chairs.";
 
 function modelOf({ shown }: Looked): SizesModel {
   return sizesModel(shown.counted.after);

@@ -10,6 +10,8 @@ import { isolated, memberWords } from "../study/names";
 import { studyOf, withScenario } from "../study/study";
 import { baseOf } from "../tables/base";
 import { columnName, guessedLayout, layoutWith } from "../tables/columns";
+import { saysMore } from "../tables/html";
+import { MOST_SHOWN, MOST_SHOWN_LETTERS } from "../tables/limits";
 import type { Thousands } from "../tables/numbers";
 import { faultWords, readTable } from "../tables/read";
 import { secondTable } from "../tables/second";
@@ -238,24 +240,29 @@ function takenWords(preview: Preview, read: ReadTable): Map<number, string> {
   return new Map([...members, ...read.roles]);
 }
 
+function clipped(cell: string): string {
+  return cell.length > MOST_SHOWN_LETTERS ? `${cell.slice(0, MOST_SHOWN_LETTERS)}…` : cell;
+}
+
 function previewTable(preview: Preview, read: ReadTable): HTMLElement {
   const { sheet, layout, answers } = preview;
   const bad = new Map(read.faults.map((it) => [`${it.row}:${layout.columns[it.meaning]}`, it.reason]));
   const taken = takenWords(preview, read);
-  const body = sheet.rows.slice(0, MOST_ROWS).map((cells, at) => {
+  const shown = Math.min(MOST_ROWS, Math.ceil(MOST_SHOWN / Math.max(1, sheet.width)));
+  const body = sheet.rows.slice(0, shown).map((cells, at) => {
     const row = at + 1;
     const isOut = answers.leftOut.has(row) || (read.roles.has(row) && read.roles.get(row) !== "heading");
     const look = row === layout.header ? "header" : row < layout.header || isOut ? "out" : "";
     const given = Array.from({ length: sheet.width }, (_, column) => {
       const reason = bad.get(`${row}:${column}`);
-      return h("td", { class: reason ? "text bad" : "text", title: reason ?? "" }, cells[column] ?? "");
+      return h("td", { class: reason ? "text bad" : "text", title: reason ?? "" }, clipped(cells[column] ?? ""));
     });
     const words = h("td", { class: "text" }, taken.get(row) ?? "");
     return h("tr", { class: look, "data-row": row }, h("th", { scope: "row" }, String(row)), given, words);
   });
   const letters = Array.from({ length: sheet.width }, (_, at) => columnName(sheet, { header: 0 }, at));
   const heads = ["Row", ...letters, layout.columns.code < 0 ? "Code and chair taken" : "Chair taken"];
-  const more = sheet.rows.length - MOST_ROWS;
+  const more = sheet.rows.length - shown;
   return h("div", { class: "scroll preview", tabindex: 0, role: "region", "aria-label": "The table's rows" },
     h(
       "table",
@@ -383,18 +390,23 @@ export function openTable(app: App, source: Source): void {
   dialog.classList.add("wide");
 }
 
-/** Asks for a table that is pasted as text. */
+/** Asks for a table that is pasted as text. One that says more as HTML is read at once. */
 export function openPaste(read: (text: string, name: string) => void): void {
   openDialog("paste-dialog", "Paste a table", (close) => {
     const area = h(
       "textarea",
       { id: "paste-text", "aria-label": "Cells from a spreadsheet, a CSV, or a script", spellcheck: "false" },
     );
-    const act = () => {
-      const text = area.value;
+    const act = (text = area.value) => {
       close();
       read(text, "Pasted table");
     };
+    area.addEventListener("paste", (event) => {
+      const html = event.clipboardData?.getData("text/html") ?? "";
+      if (area.value || !saysMore(html)) return;
+      event.preventDefault();
+      act(`<html>${html}`);
+    });
     return [
       h(
         "p",
@@ -403,7 +415,7 @@ export function openPaste(read: (text: string, name: string) => void): void {
           "its name, its votes, its chair by number or by name. Tables as the Fund prints them are read, too.",
       ),
       area,
-      h("div", { class: "buttons" }, button("Read the table", act, { id: "paste-take", class: "primary" })),
+      h("div", { class: "buttons" }, button("Read the table", () => act(), { id: "paste-take", class: "primary" })),
     ];
   });
 }

@@ -55,8 +55,9 @@ def gain_words(gain: Fraction, index: IndexName) -> str:
     return FINDINGS["tiny"].format(change=words) if is_tiny else words
 
 
-def votes_words(votes: int) -> str:
-    return f"{votes:,} vote{'s' * (votes != 1)}"
+def counted(count: int, noun: str) -> str:
+    """A number of things in words."""
+    return f"{count:,} {noun}" + "s" * (count != 1)
 
 
 def listed(names: Sequence[str], most: int = MOST_NAMED) -> str:
@@ -135,8 +136,8 @@ def threshold_sentence(swept: Swept, found: Sequence[Threshold]) -> str:
     said = "; ".join(kind_words(swept.steps[0], chairs, words) for words, chairs in kinds.items())
     share = decimal(100 * first.share.numerator, first.share.denominator, PERCENT_PLACES)
     return (
-        f"{BEGINNINGS[first.majority]}, from {votes_words(first.votes)} of {swept.sweep.who} on, {share} per cent of "
-        f"the total voting power: {said}. With {votes_words(first.votes - 1)} it is not so."
+        f"{BEGINNINGS[first.majority]}, from {counted(first.votes, 'vote')} of {swept.sweep.who} on, {share} per cent "
+        f"of the total voting power: {said}. With {counted(first.votes - 1, 'vote')} it is not so."
     )
 
 

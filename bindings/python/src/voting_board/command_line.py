@@ -106,11 +106,6 @@ def majorities(text: str) -> list[str]:
     return found
 
 
-def counted(count: int, noun: str) -> str:
-    """A number of things in words."""
-    return f"{count:,} {noun}" + "s" * (count != 1)
-
-
 def check_names(paths: Iterable[Path]) -> None:
     """Checks that no two files have one place."""
     places = list(map(resolved, paths))

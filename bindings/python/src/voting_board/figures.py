@@ -11,7 +11,7 @@ from pathlib import Path
 from typing import TYPE_CHECKING, Any, Iterator, Optional
 
 from .amounts import BadStudy
-from .answers import NAMES, WORDS, decimal, votes_words
+from .answers import NAMES, WORDS, counted, decimal
 from .command_line import PDF, SVG, check_names, say
 from .files import place_of
 from .names import Majority
@@ -162,8 +162,9 @@ def line_plot(panels: Sequence[tuple[str, DataFrame, Sequence[float]]], index: I
 def threshold_words(swept: Swept, majorities: Sequence[Majority]) -> str:
     """A caption's sentence on the thin lines; empty if there are none."""
     said = [
-        f"at {it.majority}, from {votes_words(it.votes)} ({decimal(100 * it.share.numerator, it.share.denominator, 3)} "
-        f"per cent), chair {it.chair} {WORDS[it.kind, it.begins]}"
+        f"at {it.majority}, from {counted(it.votes, 'vote')} "
+        f"({decimal(100 * it.share.numerator, it.share.denominator, 3)} per cent), "
+        f"chair {it.chair} {WORDS[it.kind, it.begins]}"
         for it in swept.thresholds
         if it.majority in majorities
     ]

@@ -7,7 +7,8 @@ from collections.abc import Iterator
 from hashlib import sha256
 from pathlib import Path
 
-from .command_line import TABLE, add_figure_words, check_names, command_words, counted, ended, out_name, read_bytes, say
+from .answers import counted
+from .command_line import TABLE, add_figure_words, check_names, command_words, ended, out_name, read_bytes, say
 from .files import csv_text, place_of, write_files
 from .library import path_of
 from .names import VERSION

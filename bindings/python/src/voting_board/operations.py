@@ -2,7 +2,7 @@
 from __future__ import annotations
 
 import re
-from collections.abc import Callable, Container, Mapping, Sequence
+from collections.abc import Callable, Container, Iterable, Mapping, Sequence
 from dataclasses import dataclass
 from fractions import Fraction
 from typing import Any, Optional, Union
@@ -148,12 +148,18 @@ def shared(members: Members, codes: Sequence[str], percent: str, others: str) ->
         unit = "points more" if is_more else "per cent"
         raise BadStudy(f"no number of votes is {percent} {unit} of the total voting power")
     if others == "keep":
-        return records_for(members, codes, round(asked / (100 - asked) * (total - own)))
+        return changing(members, records_for(members, codes, round(asked / (100 - asked) * (total - own))))
     votes = round(asked * total / 100)
     rest = [code for code, it in members.items() if not it.suspended and code not in codes]
     if not has_proportions(members, rest):
         raise BadStudy("the others have no votes to pay with")
-    return [*records_for(members, codes, votes), *records_for(members, rest, total - votes)]
+    return changing(members, [*records_for(members, codes, votes), *records_for(members, rest, total - votes)])
+
+
+def changing(members: Members, records: Iterable[str]) -> list[str]:
+    """The records that change a member's votes."""
+    same = {f"votes,{code},{it.votes}" for code, it in members.items()}
+    return [it for it in records if it not in same]
 
 
 def moved(members: Members, codes: Sequence[str], to: Optional[int]) -> list[str]:

@@ -233,7 +233,7 @@ class Register:
 
         script: text, bytes, or a pathlib.Path of a file, of any length
         journal: the most commands that are accepted, from 1 to 1,000,000
-        names: the names of chairs that are open at its end, by number, as `names` gives them. A script has none
+        names: the names of chairs that are open at its end, by number, as `chair_names` gives them. A script has none
 
         Commands and publications are carried out; readings change nothing. Raises `Refused`, with the number of the
         record, for a refused command and a fault; and ValueError for text of a single line.
@@ -459,7 +459,7 @@ class Register:
         return {chair: tuple(codes) for chair, codes in found.items()}
 
     @property
-    def names(self) -> dict[int, str]:
+    def chair_names(self) -> dict[int, str]:
         """The names of open chairs by number: those that the table of members, `open`, `rename` or `from_script` gave.
         A chair that is closed and opened again is a new chair, and `undo` gives it back the name that it had."""
         with self._used():
@@ -479,8 +479,8 @@ class Register:
 
     def script(self) -> str:
         """The register as a script, which `from_script` and `board replay` read: the members with which it started, the
-        accepted commands, and a publication after those that are published. It has no names of chairs, which `names`
-        has: `from_script` takes them. A pickle keeps all."""
+        accepted commands, and a publication after those that are published. It has no names of chairs, which
+        `chair_names` has: `from_script` takes them. A pickle keeps all."""
         with self._used():
             lines = ["member,votes", *(f"{code},{votes}" for code, votes in self._opening().items()), "script"]
             commands = list(map(str, self._commands()))
@@ -529,12 +529,13 @@ class Register:
         return restored, (type(self), self.script(), self._limit, {}, handle.names.by_opening)
 
     def __repr__(self) -> str:
-        if self._lock.locked():
-            return "Register(another thread is using it)"
-        with self._used():
-            handle, sheet = self._handle.words, self._sheet()
-            members, accepted = short.board_register_members(handle), short.board_register_accepted(handle)
-            published = short.board_register_published(handle)
+        try:
+            with self._used():
+                handle, sheet = self._handle.words, self._sheet()
+                members, accepted = short.board_register_members(handle), short.board_register_accepted(handle)
+                published = short.board_register_published(handle)
+        except RuntimeError as why:
+            return f"Register({why})"
         chairs = sum(map(bool, sheet[:CHAIRS]))
         return f"Register(members={members}, chairs={chairs}, accepted={accepted}, published={published})"
 

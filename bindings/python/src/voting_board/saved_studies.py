@@ -2,8 +2,8 @@
 from __future__ import annotations
 
 import json
-from collections.abc import Mapping
-from dataclasses import dataclass
+from collections.abc import Iterable, Mapping
+from dataclasses import dataclass, replace
 from typing import Any, Optional
 
 from .amounts import BadStudy
@@ -56,14 +56,20 @@ def command_of(what: Mapping[str, Any]) -> str:
     return str(command)
 
 
+def changes_in(changes: Iterable[Mapping[str, Any]]) -> list[tuple[str, str]]:
+    """The text of each change that is switched on, and the name that it gives a member or a chair."""
+    named = ((command_of(it["what"]), it.get("name") or it.get("chairName") or "") for it in changes if it["on"])
+    return [(command, str(name)) for command, name in named]
+
+
 def scenarios_of_page(study: Mapping[str, Any]) -> list[Scenario]:
     """The scenarios, and the list of changes where it is none of them, without changes that are switched off."""
-    named = {it["name"]: it["changes"] for it in study["scenarios"]}
-    texts = {label: [command_of(it["what"]) for it in changes if it["on"]] for label, changes in named.items()}
-    changed = [command_of(it["what"]) for it in study["changes"] if it["on"]]
-    if changed not in texts.values():
-        texts[CHANGED] = changed
-    return [scenario(label, commands) for label, commands in texts.items() if commands]
+    lists = {it["name"]: changes_in(it["changes"]) for it in study["scenarios"]}
+    changed = changes_in(study["changes"])
+    if changed not in lists.values():
+        lists[CHANGED] = changed
+    found = ((label, [*zip(*changes)]) for label, changes in lists.items() if changes)
+    return [replace(scenario(label, commands), names=names) for label, (commands, names) in found]
 
 
 def sweeps_of_page(asked: Optional[Mapping[str, Any]], labels: list[str]) -> list[Sweep]:

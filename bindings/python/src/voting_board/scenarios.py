@@ -32,10 +32,14 @@ Asked = Union[str, Iterable[Union[str, Command]]]
 
 @dataclass(frozen=True)
 class Scenario:
-    """A label, and commands that are carried out on the base. `votes` may have per cent, or several members."""
+    """A label, and commands that are carried out on the base. `votes` may have per cent, or several members.
+
+    names: for each command the name of the new member that it is about, or of the chair that it opens; else empty
+    """
 
     label: str
     commands: tuple[str, ...]
+    names: tuple[str, ...] = ()
 
 
 @dataclass(frozen=True)

@@ -6,8 +6,9 @@ import io
 import re
 import unicodedata
 from collections import Counter
-from collections.abc import Iterable, Iterator, Sequence
+from collections.abc import Container, Iterable, Iterator, Sequence
 from dataclasses import dataclass, field, replace
+from functools import cache
 from hashlib import sha256
 from pathlib import Path
 from typing import Optional, Union
@@ -256,17 +257,34 @@ def doubts_of(members: Sequence[StrictMember]) -> dict[int, str]:
     return doubts
 
 
+def plain_of(name: str) -> str:
+    """A name in small letters without accents."""
+    letters = unicodedata.normalize("NFD", name)
+    return "".join(it for it in letters if not unicodedata.category(it).startswith("M")).lower()
+
+
 def key_of(name: str) -> str:
     """What the spellings of a country's name have in common: its words in order of the alphabet."""
-    plain = "".join(it for it in unicodedata.normalize("NFD", name) if not unicodedata.category(it).startswith("M"))
-    words = re.split("[^a-z]+", re.sub("[.'\u2019]", "", plain.lower()))
+    words = re.split("[^a-z]+", re.sub("[.'\u2019]", "", plain_of(name)))
     return " ".join(sorted({SHORT.get(it, it) for it in words} - LEFT_OUT))
 
 
+@cache
 def country_codes() -> dict[str, str]:
     """The ISO codes of countries by the keys of their names."""
     pairs = (line.split(":") for line in CODES.splitlines())
     return {key: code for code, keys in pairs for key in keys.split(";")}
+
+
+def member_key(name: str) -> str:
+    """What the same member's names have in common: the country's code, or the letters without accents and capitals."""
+    return country_codes().get(key_of(name)) or " ".join(plain_of(name).split())
+
+
+def free_codes(used: Container[str]) -> Iterator[str]:
+    """Codes that no country ever gets, without those that are used."""
+    codes = (f"X{second}{third}" for second in LETTERS for third in LETTERS)
+    return (it for it in codes if it != "XKX" and it not in used)
 
 
 def made_codes(names: Iterable[str]) -> Iterator[str]:
@@ -276,7 +294,7 @@ def made_codes(names: Iterable[str]) -> Iterator[str]:
     for at, code in enumerate(own):
         own[at] = "" if code in used else code
         used.add(code)
-    free = (f"X{second}{third}" for second in LETTERS for third in LETTERS if f"X{second}{third}" not in used | {"XKX"})
+    free = free_codes(used)
     return (code or next(free) for code in own)
 
 

@@ -16,6 +16,7 @@ from dataclasses import dataclass, field, replace
 from fractions import Fraction
 from functools import cached_property
 from hashlib import sha256
+from itertools import zip_longest
 from pathlib import Path
 from typing import TYPE_CHECKING, Optional, Union
 
@@ -79,11 +80,13 @@ def base_of(given: Given) -> Base:
 
 @dataclass(frozen=True)
 class Taken:
-    """A command of a scenario, the register's commands for it, and its operation in the page's format if it is one."""
+    """A command of a scenario, the register's commands for it, its operation in the page's format if it is one, and the
+    name of the new member that it is about or of the chair that it opens."""
 
     command: str
     done: tuple[Command, ...]
     operation: Optional[dict[str, object]] = None
+    name: str = ""
 
 
 @dataclass(frozen=True)
@@ -274,7 +277,7 @@ def with_names(found: Result, moved: Moved, members: Mapping[str, str]) -> Resul
     """The result with a name for each open chair: the given one, else that of its member with the most votes, and how
     many others there are."""
     open_chairs = next(iter(found.indices.values())).numbers
-    given = {chair: name for chair, name in moved.register.names.items() if chair not in found.opened}
+    given, members = moved.register.chair_names, {**members, **moved.admitted}
     seated: dict[Optional[int], list[str]] = {chair: [] for chair in open_chairs if chair not in given}
     for code, member in moved.members.items() if seated else ():
         if member.chair in seated:
@@ -298,10 +301,15 @@ class Moved:
     def members(self) -> Members:
         return self.register.members
 
-    def after(self, commands: Iterable[str]) -> Moved:
-        """The register after further commands. A refused one is a BadStudy."""
+    @property
+    def admitted(self) -> dict[str, str]:
+        """The names of members that were admitted, by code."""
+        return {it.done[0].code or "": it.name for it in self.taken if it.name and it.done[0].kind == "admit"}
+
+    def after(self, commands: Sequence[str], names: Sequence[str] = ()) -> Moved:
+        """The register after further commands, with the names that they give. A refused one is a BadStudy."""
         register, taken, back, members = self.register.copy(), list(self.taken), list(self.back), self.members
-        for number, command in enumerate(commands):
+        for number, (command, name) in enumerate(zip_longest(commands, names, fillvalue="")):
             members = register.members if number else members
             accepted = register.accepted
             try:
@@ -314,7 +322,9 @@ class Moved:
             except BadStudy as why:
                 raise BadStudy(f"{command!r}: {why}") from None
             done = register.journal[accepted:]
-            taken.append(Taken(command, done, data))
+            if name and done[0].kind == "open":
+                register.rename(done[0].chair or 0, name)
+            taken.append(Taken(command, done, data, name))
             back = [*(it for one in reversed(done) for it in undone(members, one)), *back]
         return Moved(register, tuple(taken), tuple(back))
 
@@ -339,7 +349,7 @@ class Counting:
     def scenario(self, asked: Scenario) -> tuple[Result, Moved]:
         """Carries out a scenario."""
         try:
-            return Result(asked.label, {}, {}), self.moved[BASE].after(asked.commands)
+            return Result(asked.label, {}, {}), self.moved[BASE].after(asked.commands, asked.names)
         except BadStudy as why:
             raise BadStudy(f"scenario {asked.label!r}: {why}") from None
 

@@ -3,17 +3,21 @@ from __future__ import annotations
 
 import argparse
 import sys
+from dataclasses import replace
+from itertools import chain, count
 from pathlib import Path
+from typing import Optional
 
 from . import studies
-from .answers import NAMES
-from .command_line import PAGE, TABLE, add_figure_words, check_names, command_words, counted, ended
+from .answers import NAMES, counted
+from .command_line import PAGE, TABLE, add_figure_words, check_names, command_words, ended
 from .command_line import majorities, out_name, printable, read_bytes, say
 from .files import check_same, place_of, write_files
 from .names import MAJORITIES, VERSION
-from .saved_studies import Saved, is_saved, read_saved
-from .scenarios import BASE, each, scenario_of, scenarios_in, sweep_of
-from .strict import ENCODINGS, read_table
+from .saved_studies import CHANGED, Saved, is_saved, read_saved
+from .scenarios import BASE, each, one_line, scenario_of, scenarios_in, sweep_of
+from .second_tables import second_table
+from .strict import ENCODINGS, StrictTable, read_table
 from .study_files import file_line, page_data, page_with, provenance, study_table, sweep_in_page
 
 SCRIPT = "member,votes\n"
@@ -27,6 +31,9 @@ TABLE is a strict table: CSV with the columns code (or name), votes, chair, and 
 whole numbers. board.html cleans any other one and saves it as such a table.
 
 TABLE may also be a study that board.html saved (.study.json, or a page), with its changes and scenarios.
+
+--compare takes a second strict table, of another year, as a scenario that has its file's name: members are the same by
+name or code, chairs where they share the most votes of members. It says what no change says, such as another name.
 
 A scenario is a label, a colon, and commands separated by semicolons (open, close, move, votes, suspend, restore, admit,
 withdraw, as docs/FORMATS.md has them), carried out on the register of the table. --scenarios takes a file of them: CSV
@@ -68,14 +75,15 @@ def words() -> argparse.ArgumentParser:
     add("--at", metavar="MAJORITIES", type=majorities, default=MAJORITIES, help=f"(default: {','.join(MAJORITIES)})")
     add("--scenario", metavar="TEXT", action="append", default=[], help="'LABEL: command; command'")
     add("--scenarios", metavar="FILE", action="append", default=[], help="scenarios, in CSV or TOML")
+    add("--compare", metavar="TABLE", action="append", default=[], help="a second table of members, as a scenario")
     add("--sweep", metavar="TEXT", action="append", default=[], help="'WHO FROM..TO by STEP %%', of the total")
     add("--measure", choices=NAMES, default="share", help="what sentences, page and figures compare (default: share)")
     add("--replay", metavar="FILE", type=Path, help="write the input of `board replay` that gives these readings")
     add("--force", action="store_true", help="let --replay replace another script")
     add("--title", help="the study's name in the page (default: the table's name)")
     add_figure_words(parser)
-    add("--encoding", choices=ENCODINGS, default="utf-8", help="of the table (default: utf-8)")
-    add("--header-row", metavar="N", type=int, default=1, help="the row of the table's header (default: 1)")
+    add("--encoding", choices=ENCODINGS, default="utf-8", help="of the tables (default: utf-8)")
+    add("--header-row", metavar="N", type=int, default=1, help="the row of the tables' header (default: 1)")
     add("--total", metavar="N", type=int, help="stop unless the votes add up to this published total")
     return parser
 
@@ -92,16 +100,39 @@ def said_of(base: studies.Base) -> list[str]:
     return [f"{many}; {chairs}; {seats if none else 'every member is in a chair'}", *base.notices]
 
 
+def name_of(path: str) -> str:
+    """A table's name: its file's."""
+    return "Table" if path == "-" else one_line(Path(path).stem)
+
+
+def table_of(given: argparse.Namespace, path: str, data: bytes, total: Optional[int] = None) -> StrictTable:
+    """The strict table in a file."""
+    try:
+        return read_table(data, encoding=given.encoding, header_row=given.header_row, total=total)
+    except ValueError as why:
+        raise ValueError("\n".join(f"{path}: {it}" for it in str(why).splitlines())) from None
+
+
 def begun(given: argparse.Namespace, data: bytes) -> Saved:
     """The study with which this one begins: a table of members without scenarios, or a study that board.html saved."""
-    name = "Table" if given.table == "-" else Path(given.table).stem
+    if not is_saved(data):
+        table = table_of(given, given.table, data, given.total)
+        return Saved(name_of(given.table), studies.base_of(table), (), (), given.total)
     try:
-        if is_saved(data):
-            return read_saved(data, total=given.total)
-        table = read_table(data, encoding=given.encoding, header_row=given.header_row, total=given.total)
-        return Saved(name, studies.base_of(table), (), (), given.total)
+        return read_saved(data, total=given.total)
     except ValueError as why:
-        raise ValueError("\n".join(f"{given.table}: {it}" for it in str(why).splitlines())) from None
+        raise ValueError(f"{given.table}: {why}") from None
+
+
+def compared(start: Saved, name: str, table: StrictTable) -> Saved:
+    """The study with a second table as a scenario, and with the sentences on it, as the page has them."""
+    taken = {BASE, CHANGED, *(it.label for it in start.scenarios)}
+    label = next(it for it in chain([name], (f"{name} {at}" for at in count(2))) if it not in taken)
+    found = second_table(start.base, table, label)
+    head = f"The scenario {label} is another table as changes (SHA-256 {table.hash})."
+    said = [" ".join([head, *found.said]), *(f"{label}: {it}" for it in table.notices)]
+    base = replace(start.base, notices=(*start.base.notices, *said))
+    return replace(start, base=base, scenarios=(*start.scenarios, found.scenario))
 
 
 def sentences(study: studies.Study, given: argparse.Namespace) -> list[str]:
@@ -119,7 +150,8 @@ def sentences(study: studies.Study, given: argparse.Namespace) -> list[str]:
 def places_of(given: argparse.Namespace, figures: dict[Path, bytes]) -> list[Path]:
     """The places of all files, which are checked: the table, the page, the script if wanted, and the figures."""
     paths = [Path(f"{given.out}.csv"), Path(f"{given.out}.html"), *([given.replay] if given.replay else [])]
-    check_names([*paths, *figures, *([] if given.table == "-" else [Path(given.table)]), *map(Path, given.scenarios)])
+    read = [it for it in (given.table, *given.compare, *given.scenarios) if it != "-"]
+    check_names([*paths, *figures, *map(Path, read)])
     return [place_of(path, kind) for path, kind in zip(paths, [TABLE, PAGE, SCRIPT])]
 
 
@@ -127,7 +159,10 @@ def make(given: argparse.Namespace) -> None:
     """Runs the study, writes its files, and says the answers."""
     places_of(given, {})
     data, files = read_bytes(given.table), [(it, read_bytes(it)) for it in given.scenarios]
+    tables = [(it, read_bytes(it)) for it in given.compare]
     start = begun(given, data)
+    for path, text in tables:
+        start = compared(start, name_of(path), table_of(given, path, text))
     said = said_of(start.base)
     say("board-study", said)
     asked = [*start.scenarios]
@@ -135,8 +170,9 @@ def make(given: argparse.Namespace) -> None:
     asked += each(scenario_of, given.scenario)
     sweeps = [*start.sweeps, *each(sweep_of, given.sweep)]
     study = studies.study(start.base, at=given.at, scenarios=asked, sweeps=sweeps)
-    read = [file_line("table", given.table, data), *(file_line("scenarios", *it) for it in files)]
-    paths = [given.table, given.out, given.replay, given.figures, *given.scenarios]
+    read = [file_line("table", given.table, data), *(file_line("second table", *it) for it in tables)]
+    read += [file_line("scenarios", *it) for it in files]
+    paths = [given.table, given.out, given.replay, given.figures, *given.compare, *given.scenarios]
     more = [command_words("board-study", sys.argv[1:], paths), *(f"read: {it}" for it in said)]
     lines = provenance(study, read, more)
     figures: dict[Path, bytes] = {}

@@ -105,14 +105,15 @@ def changes_of(result: Result, first: int) -> list[dict[str, object]]:
     for taken in result.taken:
         kind, who, amount = [*taken.command.split(","), "", ""][:3]
         percent = percent_of(amount) if kind == "votes" else None
+        named = {"chairName" if kind in ("open", "split") else "name": taken.name} if taken.name else {}
         if taken.operation:
-            found.append(taken.operation)
+            found.append({"what": taken.operation, **named})
         elif percent:
             of = "own" if percent.sign else "total"
-            found.append({"kind": "percent", "of": of, "code": who, "percent": str(percent)})
+            found.append({"what": {"kind": "percent", "of": of, "code": who, "percent": str(percent)}})
         else:
-            found += map(command_data, taken.done)
-    return [{"id": first + at, "on": True, "what": what} for at, what in enumerate(found)]
+            found += ({"what": command_data(it), **named} for it in taken.done)
+    return [{"id": first + at, "on": True, **change} for at, change in enumerate(found)]
 
 
 def sweep_in_page(study: Study) -> Optional[Sweep]:
@@ -135,7 +136,7 @@ def sweep_data(sweep: Optional[Sweep]) -> Optional[dict[str, object]]:
 
 def base_data(base: Base) -> dict[str, object]:
     """The base in the page's format."""
-    given = {str(chair): name for chair, name in base.register.names.items()}
+    given = {str(chair): name for chair, name in base.register.chair_names.items()}
     columns = {it: it for it in base.columns}
     return {
         "script": base.register.script(),

@@ -19,12 +19,12 @@ pub struct Chair {
     pub swings: u64,
     /// The Banzhaf measure: its swings over all coalitions of the other chairs.
     pub banzhaf: Fraction,
-    /// The normalized Banzhaf index: its swings over those of all chairs; none if no chair has one.
+    /// The normalised Banzhaf index: its swings over those of all chairs; none if no chair has one.
     pub share: Option<Fraction>,
     /// The power to prevent action: its swings over the coalitions that win; none if none wins.
     pub prevent: Option<Fraction>,
-    /// The power to initiate action: its swings over the coalitions that lose.
-    pub initiate: Option<Fraction>,
+    /// The power to initiate action: its swings over the coalitions that lose, of which the empty one is always one.
+    pub initiate: Fraction,
 }
 
 /// The winning coalitions of a board by a majority, and the voting power of its chairs.
@@ -146,7 +146,7 @@ impl fmt::Display for Indices {
         let width = self.chairs.iter().map(|it| name(it).chars().count()).max().unwrap_or(0);
         for it in &self.chairs {
             let [banzhaf, share, prevent, initiate] =
-                [Some(it.banzhaf), it.share, it.prevent, it.initiate].map(|it| it.map_or("-".to_string(), decimals));
+                [Some(it.banzhaf), it.share, it.prevent, Some(it.initiate)].map(|it| it.map_or("-".into(), decimals));
             write!(to, "\n{:>2} {:width$}{:>16} votes {:>11} swings", it.chair, name(it), it.weight, it.swings)?;
             write!(to, "  banzhaf {banzhaf:>8}  share {share:>8}  prevent {prevent:>8}  initiate {initiate:>8}")?;
         }
@@ -170,7 +170,7 @@ impl Chair {
             banzhaf: Fraction::reduced(swings, counts.coalitions / 2),
             share: Fraction::new(swings, all_swings),
             prevent: Fraction::new(swings, counts.omega),
-            initiate: Fraction::new(swings, counts.coalitions - counts.omega),
+            initiate: Fraction::reduced(swings, counts.coalitions - counts.omega),
         }
     }
 }

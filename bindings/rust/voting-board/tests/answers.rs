@@ -25,7 +25,7 @@ fn chair_line(it: &Chair, board: &Indices) -> String {
         printed(it.swings, board.coalitions / 2, Some(it.banzhaf)),
         printed(it.swings, swings, it.share),
         printed(it.swings, board.omega, it.prevent),
-        printed(it.swings, board.coalitions - board.omega, it.initiate),
+        printed(it.swings, board.coalitions - board.omega, Some(it.initiate)),
     ];
     format!("chair,{},{},{},{}\n", it.chair, it.weight, it.swings, fractions.join(","))
 }

@@ -20,7 +20,7 @@ fn three_chairs() {
     assert_eq!(numbers, (51, 0, 100, 100, 3, 8));
     assert_eq!(board, indices(&[50, 49, 1], Majority::Half).unwrap());
     let Chair { banzhaf, share, prevent, initiate, .. } = board.chair(1).unwrap().clone();
-    let fractions = [Some(banzhaf), share, prevent, initiate, Some(board.act)].map(|it| it.unwrap().to_string());
+    let fractions = [Some(banzhaf), share, prevent, Some(initiate), Some(board.act)].map(|it| it.unwrap().to_string());
     assert_eq!(fractions, ["3/4", "3/5", "1", "3/5", "3/8"]);
     let nobody = indices(&[0, 0], Majority::Half).unwrap().chairs[1].clone();
     assert_eq!((nobody.share, nobody.prevent, nobody.banzhaf.numerator()), (None, None, 0));

@@ -32,7 +32,6 @@ fn counted_votes(member: &BoardMember) -> u64
     }
 }
 
-// Whether a member sits in this chair.
 fn sits(member: &BoardMember, chair: u64) -> bool
     requires some { 0 < chair }
     ensures sits { result ≡ sits_in chair (standing_of member.now) }
@@ -41,7 +40,7 @@ fn sits(member: &BoardMember, chair: u64) -> bool
 }
 
 // The votes that a member adds to the weight of this chair.
-fn votes_for(member: &BoardMember, chair: u64) -> u64
+fn votes_in(member: &BoardMember, chair: u64) -> u64
     requires some { 0 < chair }
     ensures votes { result ≡ votes_in chair (standing_of member.now) }
 {
@@ -52,7 +51,6 @@ fn votes_for(member: &BoardMember, chair: u64) -> u64
     }
 }
 
-// Whether a mask names this chair.
 fn names(mask: u32, chair: u64) -> bool
     requires some { 0 < chair }
     requires bound { chair ≤ CHAIRS }
@@ -78,7 +76,6 @@ fn total_of(members: &[BoardMember]) -> Result<u64, Refusal>
     Ok(total)
 }
 
-// The word of a chair.
 fn word_of(members: &[BoardMember], mask: u32, chair: u64) -> u64
     requires some { 0 < chair }
     requires bound { chair ≤ CHAIRS }
@@ -89,7 +86,7 @@ fn word_of(members: &[BoardMember], mask: u32, chair: u64) -> u64
     let mut votes = 0;
     for index in 0..members.len() {
         is_taken = is_taken || sits(&members[index], chair);
-        votes += votes_for(&members[index], chair);
+        votes += votes_in(&members[index], chair);
     }
     if names(mask, chair) || is_taken {
         votes + 1
@@ -98,7 +95,6 @@ fn word_of(members: &[BoardMember], mask: u32, chair: u64) -> u64
     }
 }
 
-// The words of the board's sheet.
 fn words_of_members(members: &[BoardMember], mask: u32) -> Result<[u64; SHEET_WORDS], Refusal>
     ensures same { IfOk result (λ words. words ≡ member_words members.now mask) }
     ensures board { IfOk result (λ _. IsBoard members.now) }
@@ -113,7 +109,6 @@ fn words_of_members(members: &[BoardMember], mask: u32) -> Result<[u64; SHEET_WO
     Ok(words)
 }
 
-// The board's sheet.
 pub(crate) fn sheet_of_members(members: &[BoardMember], mask: u32) -> Result<Sheet, Refusal>
     ensures same { IfOk result (λ sheet. sheet ≡ member_words members.now mask) }
     ensures whole { IfOk result (λ sheet. IsSheetInRange sheet) }

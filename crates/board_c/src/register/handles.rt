@@ -29,7 +29,6 @@ impl Model for BoardRegister {
 unsafe impl Send for BoardRegister {}
 
 impl BoardRegister {
-    // The state.
     pub(crate) fn state(&mut self) -> u64
         ensures { (result ≡ self.old.state) × (self.new ≡ self.old) }
     {

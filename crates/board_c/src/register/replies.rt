@@ -1,14 +1,14 @@
 //! What the calls ask of a register.
-ghost use Rattle.std.specs.Prelude.{◌≡◌, ◌⊎◌, Some, Err, IfOk, IfErr, IsOkUnless, OnErr, slice_get};
+ghost use Rattle.std.specs.Prelude.{◌≡◌, ◌⊎◌, Some, Ok, Err, IfOk, IfErr, IsOkUnless, OnErr};
 ghost use Rattle.council_core.specs.Published.{sequential_as_of};
 ghost use Rattle.council_core.specs.Verdicts.{Follows};
 ghost use Rattle.council_core.specs.declared.refusals.Refusal.TheVariants.{OutOfMemory};
 ghost use Rattle.council_core.specs.Ledgers.{sheet_of};
 ghost use Rattle.council_core.specs.Sequential.{published_sheet};
-ghost use Rattle.c_values.specs.Counts.{IsSheetInRange, ShowsAllCounts};
+ghost use Rattle.c_values.specs.Counts.{IsSheetInRange, ShowsAllCounts, ShowsCounts};
 ghost use Rattle.c_values.specs.Given.{given_command, given_opening};
-ghost use Rattle.board_c.specs.Calls.{AcceptsAs, Begins, WritesAt, WritesCommand, WritesCounts, command_reply};
-ghost use Rattle.board_c.specs.Calls.{opening_entry, reply_number, row_at, start_reply};
+ghost use Rattle.board_c.specs.Calls.{AcceptsAs, Begins, IsStructOf, Sets, at_index, by_majority, command_at};
+ghost use Rattle.board_c.specs.Calls.{command_reply, opening_entry, reply_number, row_at, start_reply};
 
 use crate::DONE;
 use c_values::{
@@ -47,7 +47,6 @@ pub(crate) fn copy_boxed(
     Ok(Box::new(alloc, copy)?)
 }
 
-// Carries out a command.
 pub(crate) fn apply_to(
     register: &mut PublishedRegister,
     command: &BoardCommand,
@@ -62,7 +61,6 @@ pub(crate) fn apply_to(
     register.apply(command)
 }
 
-// Checks a command.
 pub(crate) fn check_on(register: &PublishedRegister, command: &BoardCommand) -> Result<(), Refusal>
     ensures { result ≡ command_reply (Some register.now) (given_command command.now) }
 {
@@ -84,7 +82,7 @@ pub(crate) fn number_in(found: Result<(), Refusal>) -> u8
 
 // Writes the row of the member at this index.
 pub(crate) fn write_row(register: &PublishedRegister, index: usize, row: &mut BoardMemberRow) -> u8
-    ensures { WritesAt (row_at register.now index) result row.old row.new }
+    ensures { Sets (at_index row_at index (Ok register.now)) result row.old row.new (λ r. row.new ≡ r) }
 {
     // The prover needs this line, since a row has a chair.
     let _nowhere: Option<ChairId> = None;
@@ -99,7 +97,7 @@ pub(crate) fn write_row(register: &PublishedRegister, index: usize, row: &mut Bo
 
 // Writes the entry of the member at this index of the opening.
 pub(crate) fn write_entry(register: &PublishedRegister, index: usize, entry: &mut BoardEntry) -> u8
-    ensures { WritesAt (opening_entry register.now index) result entry.old entry.new }
+    ensures { Sets (at_index opening_entry index (Ok register.now)) result entry.old entry.new (λ e. entry.new ≡ e) }
 {
     match register.register().opening().get(index) {
         Some(member) => {
@@ -116,7 +114,8 @@ pub(crate) fn write_command(
     index: usize,
     command: &mut BoardCommand,
 ) -> u8
-    ensures { WritesCommand (slice_get register.now.ledger.journal index) result command.old command.new }
+    ensures { Sets (at_index command_at index (Ok register.now)) result command.old command.new
+        (λ c. IsStructOf c command.new) }
 {
     // The prover needs this line, since a command has a chair.
     let _nowhere: Option<ChairId> = None;
@@ -145,7 +144,7 @@ fn shown_sheet(register: &PublishedRegister) -> Sheet
     *register.shown()
 }
 
-// The words of the sheet.
+// The words of the register's sheet.
 pub(crate) fn words_of(register: &PublishedRegister) -> [u64; SHEET_WORDS]
     ensures { result ≡ sheet_of register.now.ledger }
 {
@@ -155,7 +154,8 @@ pub(crate) fn words_of(register: &PublishedRegister) -> [u64; SHEET_WORDS]
 // Writes the counts of a sheet by the majority with this number.
 fn write_counts(sheet: &Sheet, majority: u32, room: &mut ListRoom, counts: &mut BoardCounts) -> u8
     requires whole { IsSheetInRange sheet.now }
-    ensures { WritesCounts majority sheet.now result counts.old counts.new }
+    ensures { Sets (by_majority majority (Ok sheet.now)) result counts.old counts.new
+        (λ words. ShowsCounts majority words counts.new) }
 {
     match counts_by_number(sheet, majority, room) {
         Ok(new) => {
@@ -173,7 +173,8 @@ pub(crate) fn write_own_counts(
     room: &mut ListRoom,
     counts: &mut BoardCounts,
 ) -> u8
-    ensures { WritesCounts majority (sheet_of register.now.ledger) result counts.old counts.new }
+    ensures { Sets (by_majority majority (Ok register.now)) result counts.old counts.new
+        (λ s. ShowsCounts majority (sheet_of s.ledger) counts.new) }
 {
     write_counts(&own_sheet(register), majority, room, counts)
 }
@@ -185,7 +186,8 @@ pub(crate) fn write_shown_counts(
     room: &mut ListRoom,
     counts: &mut BoardCounts,
 ) -> u8
-    ensures { WritesCounts majority (published_sheet register.now) result counts.old counts.new }
+    ensures { Sets (by_majority majority (Ok register.now)) result counts.old counts.new
+        (λ s. ShowsCounts majority (published_sheet s) counts.new) }
 {
     write_counts(&shown_sheet(register), majority, room, counts)
 }

@@ -1,6 +1,6 @@
 //! The two kinds of run, and their limits.
-ghost use Rattle.std.specs.Prelude.{◌≡◌};
-ghost use Rattle.recording_io.specs.Tapes.{OfInput};
+ghost use Rattle.std.specs.Prelude.{◌≡◌, Some};
+ghost use Rattle.recording_io.specs.Tapes.{IsSameWriter, OfInput};
 ghost use Rattle.board_runs.specs.Ended.{WritesOutput};
 ghost use Rattle.board_runs.specs.Replays.{run_of};
 ghost use Rattle.board_runs.specs.Traces.{trace_of};
@@ -9,7 +9,7 @@ ghost use Rattle.board_c.specs.declared.runs.kinds.Kind.{Kind};
 
 use board_runs::{replay, trace};
 use board_text::{Fault, Limits};
-use recording_io::RecordingReader;
+use recording_io::{Recorder, RecordingReader, RecordingWriter};
 use std::alloc::Global;
 use std::io::{Read, Write};
 
@@ -22,30 +22,53 @@ pub(crate) enum Kind {
 
 // A replay. It isn't inlined, so that a call needs the stack of one kind of run and not of both.
 #[inline(never)]
-fn run_replay<R: Read + Drop, W: Write>(
+fn run_replay<R: Read + Drop, W: Recorder>(
     alloc: Global,
     input: &mut RecordingReader<R>,
     out: &mut W,
     limits: Limits,
 ) -> Result<(), Fault>
     ensures wrote { OfInput input.old input.new
-        (λ bytes. WritesOutput (W.contents out.old) (W.contents out.new) result (run_of limits bytes)) }
+        (λ bytes. WritesOutput (Some (W.recorded out.old).bytes) (Some (W.recorded out.new).bytes)
+        result (run_of limits bytes)) }
+    ensures same { IsSameWriter (W.recorded out.old) (W.recorded out.new) }
 {
     replay(alloc, input, out, limits)
 }
 
 // A trace, which isn't inlined either.
 #[inline(never)]
-fn run_trace<R: Read + Drop, W: Write>(
+fn run_trace<R: Read + Drop, W: Recorder>(
     alloc: Global,
     input: &mut RecordingReader<R>,
     out: &mut W,
     limits: Limits,
 ) -> Result<(), Fault>
     ensures wrote { OfInput input.old input.new
-        (λ bytes. WritesOutput (W.contents out.old) (W.contents out.new) result (trace_of limits bytes)) }
+        (λ bytes. WritesOutput (Some (W.recorded out.old).bytes) (Some (W.recorded out.new).bytes)
+        result (trace_of limits bytes)) }
+    ensures same { IsSameWriter (W.recorded out.old) (W.recorded out.new) }
 {
     trace(alloc, input, out, limits)
+}
+
+// Runs an input, and records the lines of the run.
+fn record<R: Read + Drop, W: Recorder>(
+    alloc: Global,
+    kind: Kind,
+    input: &mut RecordingReader<R>,
+    out: &mut W,
+    limits: Limits,
+) -> Result<(), Fault>
+    ensures wrote { OfInput input.old input.new
+        (λ bytes. WritesOutput (Some (W.recorded out.old).bytes) (Some (W.recorded out.new).bytes)
+        result (run_as kind limits bytes)) }
+    ensures same { IsSameWriter (W.recorded out.old) (W.recorded out.new) }
+{
+    match kind {
+        Kind::Replay => run_replay(alloc, input, out, limits),
+        Kind::Trace => run_trace(alloc, input, out, limits),
+    }
 }
 
 // Runs an input, and writes the lines of the run.
@@ -59,8 +82,8 @@ pub(crate) fn carry_out<R: Read + Drop, W: Write>(
     ensures wrote { OfInput input.old input.new
         (λ bytes. WritesOutput (W.contents out.old) (W.contents out.new) result (run_as kind limits bytes)) }
 {
-    match kind {
-        Kind::Replay => run_replay(alloc, input, out, limits),
-        Kind::Trace => run_trace(alloc, input, out, limits),
-    }
+    let mut recorder = RecordingWriter::new(out);
+    let result = record(alloc, kind, input, &mut recorder, limits);
+    let _out = recorder.into_inner();
+    result
 }

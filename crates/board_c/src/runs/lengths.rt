@@ -25,7 +25,6 @@ fn measure_lack_of_memory() -> Shown
     }
 }
 
-// The length of the text of a run.
 fn measure_text(alloc: Global, kind: Kind, input: &[u8], limits: Limits) -> Shown
     ensures measures { Measures (run_as kind limits input.now) result.count (answer_of result.end)
         (record_of result.end) }

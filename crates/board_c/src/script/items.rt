@@ -1,10 +1,9 @@
 //! What a caller in C gets for each record of a script.
-ghost use Rattle.std.specs.Prelude.{◌≡◌, true};
-ghost use Rattle.board_text.specs.Text.{is_served};
+ghost use Rattle.std.specs.Prelude.{◌≡◌};
 ghost use Rattle.board_c.specs.Items.{item_as, item_with, only_kind, with_span};
 
 use crate::script::lines::LineSpan;
-use board_text::{Limits, Request};
+use board_text::Request;
 use c_values::{BoardCommand, PUBLISH, READ, command_for, number_for};
 use council_core::Order;
 
@@ -40,7 +39,6 @@ fn only_kind(kind: u32) -> BoardCommand
     }
 }
 
-// An item with its span.
 fn item_with(
     number: u32,
     span: LineSpan,
@@ -60,9 +58,8 @@ fn item_with(
     }
 }
 
-// The item of a request whose reader number is in range, with its span.
-pub(crate) fn item_for(number: u32, span: LineSpan, limits: Limits, request: Request) -> BoardItem
-    requires served { is_served limits request ≡ true }
+// The item of a request, with its span.
+pub(crate) fn item_for(number: u32, span: LineSpan, request: Request) -> BoardItem
     ensures item { result ≡ with_span span.from span.to (item_as number request) }
 {
     match request {
@@ -79,7 +76,7 @@ pub(crate) fn item_for(number: u32, span: LineSpan, limits: Limits, request: Req
                 number,
                 span,
                 only_kind(READ),
-                reader as u32,
+                u32::from(reader),
                 number_for(majority),
             )
         }

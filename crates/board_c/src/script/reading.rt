@@ -15,7 +15,7 @@ use council_core::{MAX_COMMANDS, MemberCode, Refusal, Votes};
 use csv::ByteRecord;
 use std::alloc::Global;
 
-// Reads the records of a text.
+// Reads an input whose limits and length are in range.
 fn read_text(
     alloc: Global,
     text: &[u8],
@@ -39,7 +39,6 @@ fn read_text(
     read_records(text, &mut script, &mut row, limits, first, items, count)
 }
 
-// Reads an input.
 pub(crate) fn read_input(
     alloc: Global,
     input: &[u8],

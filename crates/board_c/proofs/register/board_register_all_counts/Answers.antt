@@ -1,15 +1,15 @@
-use Rattle.std.proofs.Common.{◌≡◌, rules}
+use Rattle.std.proofs.Common.{◌≡◌, Result, refl, rules}
 use Rattle.council_core.specs.Sequential.{Sequential}
 use Rattle.council_core.specs.Ledgers.{sheet_of}
+use Rattle.council_core.specs.declared.refusals.Refusal.{Refusal}
 use Rattle.c_values.specs.Counts.{ShowsAllCounts}
-use Rattle.std.proofs.Common.{refl}
-use Rattle.board_c.proofs.HandleFacts.{handle_kept, of_register}
+use Rattle.board_c.proofs.HandleFacts.{handle_kept, written_from}
 use Rattle.board_c.proofs.register.board_register_all_counts.Goals as goal
 
 pub returns-clause-counts : goal.returns-clause-counts
 returns-clause-counts c =
     let live : c.state.new.self.state ≡ 1 = search rules in
-    of_register _ _ _ _ _ _ (λ (s : Sequential). (0 ≡ 0) × ShowsAllCounts (sheet_of s.ledger) c.all_counts_of.result)
+    written_from _ _ _ (λ (r : Result Sequential Refusal). r) _ _ _ (λ (s : Sequential). ShowsAllCounts (sheet_of s.ledger) c.all_counts_of.result)
     c.state.ensures.1 live c.register_of.ensures.value (refl, c.all_counts_of.ensures)
 
 pub returns-clause-unchanged : goal.returns-clause-unchanged

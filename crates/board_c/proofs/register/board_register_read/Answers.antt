@@ -1,13 +1,14 @@
 use Rattle.std.proofs.Common.{◌≡◌, rules}
 use Rattle.council_core.specs.Sequential.{Sequential, published_sheet}
-use Rattle.board_c.specs.Calls.{WritesCounts}
-use Rattle.board_c.proofs.HandleFacts.{handle_kept, of_register}
+use Rattle.c_values.specs.Counts.{ShowsCounts}
+use Rattle.board_c.specs.Calls.{by_majority}
+use Rattle.board_c.proofs.HandleFacts.{handle_kept, written_from}
 use Rattle.board_c.proofs.register.board_register_read.Goals as goal
 
 pub returns-clause-counts : goal.returns-clause-counts
 returns-clause-counts c =
     let live : c.state.new.self.state ≡ 1 = search rules in
-    of_register _ _ _ _ _ _ (λ (s : Sequential). WritesCounts c.args.majority (published_sheet s) c.write_shown_counts.result c.args.counts.now c.write_shown_counts.new.counts)
+    written_from _ _ _ (by_majority c.args.majority) _ _ _ (λ (s : Sequential). ShowsCounts c.args.majority (published_sheet s) c.write_shown_counts.new.counts)
     c.state.ensures.1 live c.register_of.ensures.value c.write_shown_counts.ensures
 
 pub returns-clause-unchanged : goal.returns-clause-unchanged

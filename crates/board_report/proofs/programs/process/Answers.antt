@@ -5,7 +5,7 @@ use Rattle.std.specs.String.{string_bytes}
 use Rattle.std.specs.Vec.Iter.{into_iter_items}
 use Rattle.clap.specs.Words.{Text}
 use Rattle.board_report.specs.Calls.{AskForNone, Asks}
-use Rattle.board_report.specs.Programs.{CallExits, IsHandled, words_of, written_streams}
+use Rattle.board_report.specs.Programs.{CallExits, IsHandled, streams_of, words_of}
 use Rattle.board_report.proofs.CallFacts.{if-ok, of-ok}
 use Rattle.board_report.proofs.programs.process.Given.{Over}
 use Rattle.board_report.proofs.programs.process.Goals as goal
@@ -18,14 +18,14 @@ same-words g c =
 
 pub returns-clause-calls : goal.returns-clause-calls
 returns-clause-calls g c =
-    let s = written_streams (g.W.Write.contents c.args.out.now) (g.W.Write.contents c.program.new.out) (g.E.Write.contents c.args.err.now) (g.E.Write.contents c.program.new.err) in
+    let s = streams_of (g.W.Recorder.recorded c.args.out.now) (g.W.Recorder.recorded c.program.new.out) (g.E.Recorder.recorded c.args.err.now) (g.E.Recorder.recorded c.program.new.err) in
     if-ok c.args.args c.in-Ok.args _ c.in-Ok.is (λ call asks bytes is.
     subst (λ (n : ℕ). CallExits call bytes n s) (sym c.from-2.ensures)
     (c.program.ensures.calls call (subst (λ (words : List Text). Asks words call) (sym (same-words g c)) asks) bytes is))
 
 pub returns-clause-answers : goal.returns-clause-answers
 returns-clause-answers g c =
-    let s = written_streams (g.W.Write.contents c.args.out.now) (g.W.Write.contents c.program.new.out) (g.E.Write.contents c.args.err.now) (g.E.Write.contents c.program.new.err) in
+    let s = streams_of (g.W.Recorder.recorded c.args.out.now) (g.W.Recorder.recorded c.program.new.out) (g.E.Recorder.recorded c.args.err.now) (g.E.Recorder.recorded c.program.new.err) in
     if-ok c.args.args c.in-Ok.args _ c.in-Ok.is
     (subst (λ (z : List Text × ℕ). IsHandled c.args.input.now c.program.new.input z.0 z.1 s) (λ i. (same-words g c i, sym c.from-2.ensures i)) c.program.ensures.answers)
 

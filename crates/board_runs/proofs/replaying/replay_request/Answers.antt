@@ -1,6 +1,6 @@
 use Rattle.std.proofs.Common.{ap, ◌∙◌}
 use Rattle.board_text.specs.Lines.{reply_line}
-use Rattle.board_text.proofs.RunFacts.{writes-spelled}
+use Rattle.board_text.proofs.Face.{writes-spelled}
 use Rattle.board_runs.proofs.replaying.replay_request.Goals as goal
 
 pub returns-in-Order-clause-wrote : goal.returns-in-Order-clause-wrote

@@ -1,7 +1,7 @@
 use Rattle.std.proofs.Common.{arith, ◌∙◌}
 use Rattle.std.proofs.lemmas.Result.{err_from_is_err_and}
 use Rattle.board_text.specs.Lines.{chair_line}
-use Rattle.board_text.proofs.RunFacts.{RowAt, writes-passed, rows-more, rows-stop}
+use Rattle.board_text.proofs.Face.{RowAt, rows-more, rows-stop, writes-passed}
 use Rattle.board_runs.proofs.replaying.write_chairs.Goals as goal
 
 pub returns-in_err-write_line-clause-wrote : goal.returns-in_err-write_line-clause-wrote
@@ -26,5 +26,5 @@ loop-row-preserved g c =
     } in
     record {
       so_far = rows-more chair_line _ _ _ c.args.rows.now c.loop-row.row-index row c.loop-row.invariant.so_far c.in_ok-write_line.ensures.written;
-      continues = (c.in_ok-write_line.ensures.continues.0 ∙ c.loop-row.invariant.continues.0, omega (arith, c.loop-row.invariant.continues.1, c.in_ok-write_line.ensures.continues.1));
+      continues = (c.in_ok-write_line.ensures.continues.0 ∙ c.loop-row.invariant.continues.0, c.in_ok-write_line.ensures.continues.1 ∙ c.loop-row.invariant.continues.1, omega (arith, c.loop-row.invariant.continues.2, c.in_ok-write_line.ensures.continues.2));
     }

@@ -2,7 +2,7 @@ use Rattle.std.proofs.Common.{map, ap, ◌∙◌}
 use Rattle.std.proofs.lemmas.Result.{err_from_is_err_and}
 use Rattle.power_index.specs.declared.indices.Indices.{Indices}
 use Rattle.board_text.specs.Lines.{chair_line, reading_line}
-use Rattle.board_text.proofs.RunFacts.{first-stops, first-then, writes-passed}
+use Rattle.board_text.proofs.Face.{first-stops, first-then, writes-passed}
 use Rattle.board_runs.proofs.DeskFacts.{at-their-own}
 use Rattle.board_runs.proofs.replaying.write_reading.Goals as goal
 

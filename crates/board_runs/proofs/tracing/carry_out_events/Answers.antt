@@ -18,5 +18,5 @@ loop-turn-preserved g c =
           so_far.0 _ so_far.1 so_far.2 tt c.carry_out_event.new.machine c.in_ok-carry_out_event.ensures.wrote c.in_ok-carry_out_event.ensures.state;
       state = c.loop-turn.invariant.state
           ∙ after-left c.loop-turn.machine c.args.event.now c.args.count c.loop-turn._turn c.loop-turn-test.true c.carry_out_event.new.machine c.in_ok-carry_out_event.ensures.state;
-      continues = (c.in_ok-carry_out_event.ensures.continues.0 ∙ c.loop-turn.invariant.continues.0, omega (arith, c.loop-turn.invariant.continues.1, c.in_ok-carry_out_event.ensures.continues.1));
+      continues = (c.in_ok-carry_out_event.ensures.continues.0 ∙ c.loop-turn.invariant.continues.0, c.in_ok-carry_out_event.ensures.continues.1 ∙ c.loop-turn.invariant.continues.1, omega (arith, c.loop-turn.invariant.continues.2, c.in_ok-carry_out_event.ensures.continues.2));
     }

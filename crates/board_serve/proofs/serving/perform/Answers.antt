@@ -1,3 +1,9 @@
+use Rattle.std.proofs.Common.{List, subst, sym}
+use Rattle.std.proofs.lemmas.Result.{err_from_is_err_and}
+use Rattle.council_core.specs.Sequential.{Sequential}
+use Rattle.council_core.specs.declared.calls.Order.{Order}
+use Rattle.board_text.specs.declared.stops.Stop.{Stop}
+use Rattle.board_serve.specs.Work.{StopsAll}
 use Rattle.board_serve.specs.Plans.{plan_over, records_of}
 use Rattle.board_serve.proofs.OutcomeFacts.{outcome-of, seated, served-cuts}
 use Rattle.board_serve.proofs.serving.perform.Goals as goal
@@ -34,3 +40,13 @@ returns-clause-records g c = rw (c.into_parts-register.ensures.parts, ← c.open
 
 pub returns-clause-differs : goal.returns-clause-differs
 returns-clause-differs g c = rw (c.into_parts-register.ensures.parts, ← c.opening.ensures.members, ← c.in_ok-members.ensures.items, ← c.as_slice.ensures.value) c.in_ok-legal.ensures.broken
+
+pub returns-in_err-done-clause-stopped : goal.returns-in_err-done-clause-stopped
+returns-in_err-done-clause-stopped g c =
+    let p = err_from_is_err_and c.from_residual-in_err-done.result c.from_residual-in_err-done.ensures.1 in
+    let parts = c.into_parts-register in
+    let work = c.in_ok-work.work in
+    let start = c.in_ok-work.ensures in
+    let seats = seated parts.result.0 parts.result.1 work parts.ensures.starts start.writer start.orders start.readers start.asked in
+    let P : Sequential × List Order × Stop → Type 0 = λ z. StopsAll z.0 z.1 z.2 in
+    rw (p.1, parts.ensures.parts) (subst P (λ i. (seats.start i, seats.orders i, sym p.2 i)) c.in_err-done.ensures.stopped)

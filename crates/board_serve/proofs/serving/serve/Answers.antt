@@ -1,5 +1,5 @@
 use Rattle.std.proofs.Common.{rules}
-use Rattle.board_text.proofs.ReadingFacts.{reads-ended}
+use Rattle.board_text.proofs.Face.{reads-ended}
 use Rattle.board_serve.specs.Plans.{plan_of}
 use Rattle.board_serve.specs.declared.serving.Served.{Served}
 use Rattle.board_serve.proofs.ServeFacts.{ended-serve}
@@ -13,5 +13,5 @@ returns-clause-wrote g c = λ bytes is.
 
 pub returns-clause-reads : goal.returns-clause-reads
 returns-clause-reads g c =
-    reads-ended c.args.input.now c.serve_to-carried.new.input Served c.serve_to-carried.new.out.held c.end_run-result.new.out.held
+    reads-ended c.args.input.now.calls c.serve_to-carried.new.input.calls Served c.serve_to-carried.new.out.held c.end_run-result.new.out.held
     c.serve_to-carried.result c.end_run-result.result c.end_run-result.ensures.ends c.serve_to-carried.ensures.reads

@@ -7,7 +7,7 @@ use Rattle.board_serve.proofs.serving.serve_plan.Goals as goal
 pub returns-in_err-answers-clause-wrote : goal.returns-in_err-answers-clause-wrote
 returns-in_err-answers-clause-wrote g c =
     let p = err_from_is_err_and c.from_residual.result c.from_residual.ensures.1 in
-    rw p.1 (held-serve c.args.out.now.held c.in_err-answers.field-0.0 p.0 c.args.plan p.2 c.in_err-answers.ensures.causes)
+    rw p.1 (held-serve c.args.out.now.held c.in_err-answers.field-0.0 p.0 c.args.plan p.2 c.in_err-answers.ensures.stopped)
 
 pub returns-in_err-report-clause-wrote : goal.returns-in_err-report-clause-wrote
 returns-in_err-report-clause-wrote g c =

@@ -1,12 +1,11 @@
 use Rattle.std.proofs.Common.{Result, ap, subst, sym}
 use Rattle.std.proofs.lemmas.Result.{err_from_is_err_and}
 use Rattle.board_text.specs.Scripts.{interpreted_course}
-use Rattle.board_text.specs.Text.{started_of, text_of}
+use Rattle.board_text.specs.Text.{request_within, started_of, text_of}
 use Rattle.board_text.specs.declared.faults.Fault.{Fault}
-use Rattle.board_text.proofs.RunFacts.{appends-same}
-use Rattle.board_text.specs.Inputs.{IsReadFault}
-use Rattle.board_text.proofs.ReadingFacts.{reads-on, reads-passed}
-use Rattle.board_serve.specs.Plans.{Planned, plan_of, plan_start, plan_step, two_readers}
+use Rattle.board_text.proofs.Face.{appends-same, reads-on, run-passed}
+use Rattle.board_text.specs.Streams.{IsReadFault}
+use Rattle.board_serve.specs.Plans.{Planned, plan_effect, plan_of, plan_start, two_readers}
 use Rattle.board_serve.specs.Serving.{WritesServeRun}
 use Rattle.board_serve.proofs.PlanFacts.{plan-lines}
 use Rattle.board_serve.proofs.ServeFacts.{after-nothing, fails-serve}
@@ -16,7 +15,7 @@ pub returns-in_err-plan-clause-wrote : goal.returns-in_err-plan-clause-wrote
 returns-in_err-plan-clause-wrote g c = λ bytes is.
     let p = err_from_is_err_and c.from_residual.result c.from_residual.ensures.1 in
     let lim = two_readers c.args.journal_limit in
-    rw p.1 (fails-serve c.args.out.now.held c.interpret.new.out.held c.in_err-plan.field-0.0 p.0 (interpreted_course plan_start plan_step lim bytes) p.2
+    rw p.1 (fails-serve c.args.out.now.held c.interpret.new.out.held c.in_err-plan.field-0.0 p.0 (interpreted_course plan_start request_within plan_effect lim bytes) p.2
     (plan-lines lim (started_of lim bytes)) (c.in_err-plan.ensures.wrote bytes is))
 
 pub returns-clause-wrote : goal.returns-clause-wrote
@@ -30,7 +29,7 @@ returns-clause-wrote g c = λ bytes is.
 pub returns-in_err-plan-clause-reads : goal.returns-in_err-plan-clause-reads
 returns-in_err-plan-clause-reads g c =
     let p = err_from_is_err_and c.from_residual.result c.from_residual.ensures.1 in
-    rw p.1 (reads-passed c.args.input.now c.interpret.new.input IsReadFault c.in_err-plan.field-0.0 p.0 p.2 c.in_err-plan.ensures.reads)
+    rw p.1 (run-passed c.args.input.now.calls c.interpret.new.input.calls IsReadFault c.in_err-plan.field-0.0 p.0 p.2 c.in_err-plan.ensures.reads)
 
 pub returns-clause-reads : goal.returns-clause-reads
-returns-clause-reads g c = reads-on c.args.input.now c.interpret.new.input IsReadFault c.in_ok-plan.plan c.serve_plan.result c.in_ok-plan.ensures.reads
+returns-clause-reads g c = reads-on c.args.input.now.calls c.interpret.new.input.calls IsReadFault c.in_ok-plan.plan c.serve_plan.result c.in_ok-plan.ensures.reads

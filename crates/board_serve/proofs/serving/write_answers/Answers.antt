@@ -1,7 +1,7 @@
 use Rattle.std.proofs.lemmas.Result.{err_from_is_err_and}
 use Rattle.council_core.specs.Sequential.{answered}
 use Rattle.board_text.specs.Lines.{reply_line}
-use Rattle.board_text.proofs.RunFacts.{writes-passed, row-found, rows-stop}
+use Rattle.board_text.proofs.Face.{row-found, rows-stop, writes-passed}
 use Rattle.board_serve.proofs.serving.write_answers.Goals as goal
 
 pub returns-in_err-write_line-clause-wrote : goal.returns-in_err-write_line-clause-wrote

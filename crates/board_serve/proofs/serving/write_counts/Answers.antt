@@ -1,7 +1,7 @@
 use Rattle.std.proofs.Common.{[], ◌∷◌, refl}
 use Rattle.std.proofs.lemmas.Result.{err_from_is_err_and}
 use Rattle.board_text.specs.Lines.{reader_line}
-use Rattle.board_text.proofs.RunFacts.{first-stops, first-then, writes-passed, writes-spelled}
+use Rattle.board_text.proofs.Face.{first-stops, first-then, writes-passed, writes-spelled}
 use Rattle.board_serve.proofs.serving.write_counts.Goals as goal
 
 pub returns-in_err-write_line-clause-wrote : goal.returns-in_err-write_line-clause-wrote

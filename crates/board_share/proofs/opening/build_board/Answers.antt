@@ -1,5 +1,5 @@
-use Rattle.std.proofs.Common.{◌∙◌, arith}
-use Rattle.two_copy_steps.proofs.Steps.{publishable}
+use Rattle.board_share.proofs.Names.{arith, ◌∙◌}
+use Rattle.two_copy_steps.proofs.Face.{publishable}
 use Rattle.board_share.proofs.Openings.{words_kept, words_long}
 use Rattle.board_share.proofs.opening.build_board.Goals as goal
 

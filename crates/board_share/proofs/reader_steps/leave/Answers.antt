@@ -1,4 +1,4 @@
-use Rattle.std.proofs.Common.{◌<◌, ℕ, refl, sym, subst}
+use Rattle.board_share.proofs.Names.{refl, subst, sym, ℕ, ◌<◌}
 use Rattle.board_share.proofs.ReaderSeats.{stores, left}
 use Rattle.board_share.proofs.reader_steps.leave.Goals as goal
 

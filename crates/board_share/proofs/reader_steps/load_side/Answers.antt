@@ -1,4 +1,4 @@
-use Rattle.std.proofs.Common.{refl, arith}
+use Rattle.board_share.proofs.Names.{arith, refl}
 use Rattle.board_share.proofs.ReaderSeats.{loads, left}
 use Rattle.board_share.proofs.reader_steps.load_side.Goals as goal
 

@@ -1,6 +1,6 @@
-use Rattle.std.proofs.Common.{◌∙◌, refl, sym, ap, arith}
-use Rattle.std.proofs.lemmas.List.{take_more_set, length-take-le}
-use Rattle.two_copy_steps.specs.Actions.{copy_word, stage_with_words}
+use Rattle.board_share.proofs.Names.{ap, arith, length-take-le, refl, stage_with_words, sym, ◌∙◌}
+use Rattle.std.proofs.lemmas.List.{take_more_set}
+use Rattle.two_copy_steps.specs.Actions.{copy_word}
 use Rattle.board_share.proofs.ReaderSeats.{loads, left}
 use Rattle.board_share.proofs.reader_steps.load_word.Goals as goal
 

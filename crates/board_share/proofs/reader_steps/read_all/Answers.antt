@@ -1,9 +1,6 @@
-use Rattle.std.proofs.Common.{◌≡◌, ◌∙◌, ℕ, take, refl, sym, ap, subst, arith}
-use Rattle.two_copy_steps.specs.declared.views.Stage.{Stage}
-use Rattle.two_copy_steps.specs.declared.views.Stage.TheVariants.{AtRest, Leaving}
-use Rattle.two_copy_steps.specs.Actions.{stage_with_words}
-use Rattle.two_copy_steps.specs.declared.table.TheConstants.{COPY_WORDS}
-use Rattle.board_share.specs.Readers.{HasRead, IsReader, reader_at}
+use Rattle.board_share.proofs.Names.{ap, arith, AtRest, COPY_WORDS, IsReader, Leaving, reader_at, refl, Stage}
+use Rattle.board_share.proofs.Names.{stage_with_words, subst, sym, take, ℕ, ◌∙◌, ◌≡◌}
+use Rattle.board_share.specs.Readers.{HasRead}
 use Rattle.board_share.proofs.ReaderSeats.{loaded_all}
 use Rattle.board_share.proofs.PartialReadings.{HasReadPart, has_read, way_begun, way_on}
 use Rattle.board_share.proofs.reader_steps.read_all.Goals as goal

@@ -1,8 +1,4 @@
-use Rattle.std.proofs.Common.{◌≡◌, length, take}
-use Rattle.two_copy_steps.specs.declared.views.Stage.TheVariants.{AtRest}
-use Rattle.two_copy_steps.specs.Actions.{stage_with_words}
-use Rattle.two_copy_steps.specs.declared.table.TheConstants.{COPY_WORDS}
-use Rattle.board_share.specs.Readers.{reader_at}
+use Rattle.board_share.proofs.Names.{AtRest, COPY_WORDS, length, reader_at, stage_with_words, take, ◌≡◌}
 use Rattle.board_share.proofs.PartialReadings.{HasReadPart}
 use Rattle.board_share.proofs.reader_steps.read_all.Given as goal
 

@@ -1,8 +1,4 @@
-use Rattle.std.proofs.Common.{ap, arith}
-use Rattle.two_copy_steps.specs.declared.views.ReaderView.{ReaderView}
-use Rattle.two_copy_steps.specs.declared.views.Stage.{Stage}
-use Rattle.two_copy_steps.specs.Actions.{readings_after}
-use Rattle.board_share.specs.Readers.{known_by, reader_at}
+use Rattle.board_share.proofs.Names.{ap, arith, known_by, reader_at, ReaderView, readings_after, Stage}
 use Rattle.board_share.proofs.ReaderSeats.{loads, stores}
 use Rattle.board_share.proofs.reader_steps.touch.Goals as goal
 

@@ -1,8 +1,8 @@
-use Rattle.std.proofs.Common.{◌≡◌, ◌+◌, ◌-◌, ◌/◌, ℕ, None, length, subst, arith}
+use Rattle.board_share.proofs.Names.{arith, COPY_WORDS, held_by, length, None, publication_steps, Published, subst}
+use Rattle.board_share.proofs.Names.{unseen_count, WriterTook, ℕ, ◌+◌, ◌-◌, ◌≡◌}
+use Rattle.std.proofs.Common.{◌/◌}
 use Rattle.council_core.specs.declared.limits.TheConstants.{CHAIRS}
-use Rattle.two_copy_steps.specs.declared.events.Note.TheVariants.{Published}
-use Rattle.two_copy_steps.specs.declared.table.TheConstants.{COPY_WORDS}
-use Rattle.board_share.specs.Writers.{WriterTook, held_by, publication_steps, published_view, unseen_count}
+use Rattle.board_share.specs.Writers.{published_view}
 use Rattle.board_share.proofs.Publications.{not_due, swapped}
 use Rattle.board_share.proofs.writer_steps.publish_all.Goals as goal
 

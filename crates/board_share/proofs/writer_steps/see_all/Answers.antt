@@ -1,11 +1,11 @@
-use Rattle.std.proofs.Common.{◌≡◌, ℕ, suc, ◌+◌, ◌-◌, Bool, List, true, false, cond, length, take, set, slice_get, Some, refl, sym, ap, ◌∙◌, subst, arith, add-one, length-set, true≢false, eq-eqb, ne_eqb}
+use Rattle.board_share.proofs.Names.{add-one, all_true, ap, arith, Bool, Busy, cond, due_at, eq-eqb, false, Filling}
+use Rattle.board_share.proofs.Names.{held_by, Idle, length, length-set, List, look_count, ne_eqb, Publishing, refl}
+use Rattle.board_share.proofs.Names.{same_Some, Seeing, seeing_phase, set, slice_get, Some, subst, suc, sym, take, true}
+use Rattle.board_share.proofs.Names.{true≢false, unseen_count, WriterTook, ℕ, ◌+◌, ◌-◌, ◌∙◌, ◌≡◌}
 use Rattle.std.proofs.lemmas.List.{take_all}
-use Rattle.std.proofs.lemmas.Option.{same_Some}
-use Rattle.two_copy_steps.specs.declared.events.Note.TheVariants.{Busy}
-use Rattle.two_copy_steps.specs.declared.views.Phase.TheVariants.{Idle, Seeing, Filling}
-use Rattle.two_copy_steps.specs.Actions.{all_true, pin, seeing_phase}
-use Rattle.board_share.specs.Writers.{Publishing, WriterTook, due_at, held_by, look_count, publishing_view, unseen_count}
-use Rattle.two_copy_steps.proofs.PublicationFacts.{set_stays}
+use Rattle.two_copy_steps.specs.Actions.{pin}
+use Rattle.board_share.specs.Writers.{publishing_view}
+use Rattle.two_copy_steps.proofs.Face.{set_stays}
 use Rattle.board_share.proofs.Publications.{first_at, one_more_out, one_set_out, all_there, unseen_set, none_unseen, seeing_at, may, becomes, looked_in, looked_out}
 use Rattle.board_share.proofs.writer_steps.see_all.Goals as goal
 

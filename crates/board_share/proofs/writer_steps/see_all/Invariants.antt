@@ -1,7 +1,6 @@
-use Rattle.std.proofs.Common.{◌≡◌, ◌≤◌, ◌-◌, true, length, take}
-use Rattle.two_copy_steps.specs.Actions.{all_true, seeing_phase}
+use Rattle.board_share.proofs.Names.{all_true, due_at, length, Publishing, seeing_phase, take, true, unseen_count, ◌-◌}
+use Rattle.board_share.proofs.Names.{◌≡◌, ◌≤◌}
 use Rattle.two_copy_steps.specs.Publications.{StaySeen}
-use Rattle.board_share.specs.Writers.{Publishing, due_at, unseen_count}
 use Rattle.board_share.proofs.writer_steps.see_all.Given as goal
 
 abbrev pub ghosts-load_pin : goal.ghosts-load_pin

@@ -1,4 +1,4 @@
-use Rattle.two_copy_steps.specs.declared.views.Phase.TheVariants.{Filling}
+use Rattle.board_share.proofs.Names.{Filling}
 use Rattle.board_share.proofs.Publications.{becomes, filling_at, stored}
 use Rattle.board_share.proofs.writer_steps.store_word.Goals as goal
 

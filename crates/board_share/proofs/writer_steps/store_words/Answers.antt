@@ -1,5 +1,4 @@
-use Rattle.std.proofs.Common.{◌≡◌, ◌∙◌, ◌+◌, ◌-◌, ℕ, subst, arith}
-use Rattle.board_share.specs.Writers.{Publishing}
+use Rattle.board_share.proofs.Names.{arith, Publishing, subst, ℕ, ◌+◌, ◌-◌, ◌∙◌, ◌≡◌}
 use Rattle.board_share.proofs.writer_steps.store_words.Goals as goal
 use Rattle.two_copy_steps.specs.Actions.{filling_phase}
 

@@ -1,5 +1,5 @@
-use Rattle.std.proofs.Common.{◌≡◌, ◌≤◌, ◌-◌}
-use Rattle.board_share.specs.Writers.{HasFilled, IsFilling, due_at}
+use Rattle.board_share.proofs.Names.{due_at, ◌-◌, ◌≡◌, ◌≤◌}
+use Rattle.board_share.specs.Writers.{HasFilled, IsFilling}
 use Rattle.board_share.proofs.writer_steps.store_words.Given as goal
 
 abbrev pub ghosts-store_word : goal.ghosts-store_word

@@ -8,8 +8,8 @@ use Rattle.board_text.proofs.interpreters.interpret_script.Given as goal
 abbrev pub invariant-records : goal.invariant-records
 invariant-records g l = record {
   so_far : WrittenTo l.fn.out.held l.out.held
-      (run_in (script_course (g.I.Interpreter.step l.fn.limits) l.fn.interpreter l.fn.first l.fn.script)) (run_in (script_course (g.I.Interpreter.step l.limits) l.interpreter l.number l.script));
-  ended : (script_course (g.I.Interpreter.step l.fn.limits) l.fn.interpreter l.fn.first l.fn.script).end ≡ (script_course (g.I.Interpreter.step l.limits) l.interpreter l.number l.script).end;
+      (run_in (script_course (g.I.Interpreter.parsed l.fn.limits) g.I.Interpreter.effect l.fn.interpreter l.fn.first l.fn.script)) (run_in (script_course (g.I.Interpreter.parsed l.limits) g.I.Interpreter.effect l.interpreter l.number l.script));
+  ended : (script_course (g.I.Interpreter.parsed l.fn.limits) g.I.Interpreter.effect l.fn.interpreter l.fn.first l.fn.script).end ≡ (script_course (g.I.Interpreter.parsed l.limits) g.I.Interpreter.effect l.interpreter l.number l.script).end;
   continues : GoesOn l.fn.out l.out;
   numbers : l.number + length l.script < 2 ^ 32;
 }

@@ -12,7 +12,7 @@ pub returns-in_err-start-clause-wrote : goal.returns-in_err-start-clause-wrote
 returns-in_err-start-clause-wrote g c =
     let p = err_from_is_err_and c.from_residual.result c.from_residual.ensures.1 in
     let fault = subst (λ (rs : List Row). Fails c.in_err-start.field-0.0 (started_after c.args.limits (opened_of rs))) c.new-script.ensures.records c.in_err-start.ensures.fault in
-    rw p.1 (writes-failed c.args.out.now.held c.in_err-start.field-0.0 p.0 (course_of_script g.I.Interpreter.opened g.I.Interpreter.step c.args.limits) _ p.2 fault)
+    rw p.1 (writes-failed c.args.out.now.held c.in_err-start.field-0.0 p.0 (course_of_script g.I.Interpreter.opened g.I.Interpreter.parsed g.I.Interpreter.effect c.args.limits) _ p.2 fault)
 
 pub returns-in_err-interpreter-clause-wrote : goal.returns-in_err-interpreter-clause-wrote
 returns-in_err-interpreter-clause-wrote g c =

@@ -1,10 +1,6 @@
-use Rattle.std.proofs.Common.{arith}
-use Rattle.council_core.specs.Ledgers.{Ledger, IsLedger}
-use Rattle.council_core.proofs.LawLemmas.{IsSheet-sheet}
-use Rattle.two_copy_steps.specs.Lawful.{IsPublishable}
-use Rattle.two_copy_steps.specs.Laws.{HasVotesInRange}
-use Rattle.two_copy_steps.specs.declared.events.Event.{Event}
-use Rattle.two_copy_steps.specs.Transitions.{MachineState, transition}
+use Rattle.two_copy_steps.proofs.Names.{arith, Event, HasVotesInRange, IsLedger, IsPublishable, Ledger, MachineState}
+use Rattle.two_copy_steps.proofs.Names.{transition}
+use Rattle.council_core.proofs.Face.{IsSheet-sheet}
 use Rattle.two_copy_steps.proofs.TransitionSteps.{transition_keeps}
 use Rattle.two_copy_steps.proofs.Journals.{journal_accepted, journal_within, stays_in_range}
 use Rattle.two_copy_steps.proofs.laws.event_law.Goals as goal

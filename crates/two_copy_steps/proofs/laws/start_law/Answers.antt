@@ -1,4 +1,4 @@
-use Rattle.two_copy_steps.specs.Lawful.{IsPublishable}
+use Rattle.two_copy_steps.proofs.Names.{IsPublishable}
 use Rattle.two_copy_steps.proofs.Starts.{start_lawful}
 use Rattle.two_copy_steps.proofs.laws.start_law.Goals as goal
 

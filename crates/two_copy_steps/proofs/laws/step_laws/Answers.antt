@@ -1,4 +1,4 @@
-use Rattle.two_copy_steps.specs.Lawful.{IsPublishable}
+use Rattle.two_copy_steps.proofs.Names.{IsPublishable}
 use Rattle.two_copy_steps.proofs.ReaderSteps.{reader_keeps}
 use Rattle.two_copy_steps.proofs.WriterSteps.{writer_keeps, begin_keeps}
 use Rattle.two_copy_steps.proofs.laws.step_laws.Goals as goal

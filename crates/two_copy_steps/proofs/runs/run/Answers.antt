@@ -1,8 +1,6 @@
-use Rattle.std.proofs.Common.{◌≡◌, ℕ, ◌≤◌, length, take, ap, sym, ◌∙◌, subst, refl, inr}
-use Rattle.council_core.specs.Ledgers.{IsLedger}
-use Rattle.two_copy_steps.specs.Records.{FrontsNeverFall}
+use Rattle.two_copy_steps.proofs.Names.{ap, FrontsNeverFall, inr, IsLedger, length, machine_at_start, MachineState}
+use Rattle.two_copy_steps.proofs.Names.{notes, refl, state_after_events, subst, sym, take, ℕ, ◌∙◌, ◌≡◌, ◌≤◌}
 use Rattle.two_copy_steps.specs.Runs.{KeepsRecordsReported, WantsMemoryFrom}
-use Rattle.two_copy_steps.specs.Transitions.{MachineState, machine_at_start, state_after_events, notes}
 use Rattle.two_copy_steps.proofs.EventLists.{ledger_records, run_answers, run_apart}
 use Rattle.two_copy_steps.proofs.ReportedRecords.{run_reported, run_never_older}
 use Rattle.two_copy_steps.proofs.runs.run.Goals as goal

@@ -1,5 +1,4 @@
-use Rattle.std.proofs.Common.{◌<◌, ◌++◌, ◌∷◌, [], length, ap, sym, ◌∙◌, arith}
-use Rattle.two_copy_steps.specs.Transitions.{MachineState, transition}
+use Rattle.two_copy_steps.proofs.Names.{[], ap, arith, length, MachineState, sym, transition, ◌++◌, ◌<◌, ◌∙◌, ◌∷◌}
 use Rattle.two_copy_steps.proofs.EventLists.{after_more, notes_more}
 use Rattle.two_copy_steps.proofs.runs.step_all.Goals as goal
 

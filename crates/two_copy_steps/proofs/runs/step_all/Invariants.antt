@@ -1,5 +1,5 @@
-use Rattle.std.proofs.Common.{◌≡◌, ◌≤◌, length, take, vec_len, vec_capacity}
-use Rattle.two_copy_steps.specs.Transitions.{state_after_events, notes}
+use Rattle.two_copy_steps.proofs.Names.{length, notes, state_after_events, take, ◌≡◌, ◌≤◌}
+use Rattle.std.proofs.Common.{vec_len, vec_capacity}
 use Rattle.two_copy_steps.proofs.runs.step_all.Given as goal
 
 abbrev pub invariant-loop-done : goal.invariant-loop-done

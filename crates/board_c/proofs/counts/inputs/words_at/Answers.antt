@@ -1,7 +1,7 @@
 use Rattle.std.proofs.Common.{◌≡◌, refl, ◌+◌, ◌-◌, ◌<◌, [], ◌∷◌, ◌++◌, ℕ, List, map, length, replicate, get_or, ◌∙◌, arith}
 use Rattle.std.proofs.lemmas.List.{get_or-map, get_or_append_left, get_or_default, length-map}
 use Rattle.board_c.specs.Counts.{words_of_weights}
-use Rattle.c_values.proofs.RowLemmas.{first_left, next_image}
+use Rattle.c_values.proofs.Face.{first_left, next_image}
 use Rattle.board_c.proofs.counts.inputs.words_at.Goals as goal
 
 -- the word of a chair that is open by its weight

@@ -2,7 +2,7 @@ use Rattle.std.proofs.Common.{◌≡◌, ℕ, ◌-◌, ◌+◌, [], ◌∷◌, �
 use Rattle.std.proofs.lemmas.List.FromFn.{get_or-range_with_len, length-range_with_len}
 use Rattle.council_core.specs.Rolls.{chair_numbers}
 use Rattle.board_c.specs.Members.{member_word}
-use Rattle.c_values.proofs.RowLemmas.{first_left, next_image}
+use Rattle.c_values.proofs.Face.{first_left, next_image}
 use Rattle.board_c.proofs.counts.members.words_of_members.Goals as goal
 
 pub loop-index-preserved : goal.loop-index-preserved

@@ -1,8 +1,10 @@
 use Rattle.std.proofs.Common.{List, ℕ, subst}
-use Rattle.board_c.specs.Calls.{WritesCounts}
+use Rattle.council_core.specs.Sequential.{Sequential, published_sheet}
+use Rattle.c_values.specs.Counts.{ShowsCounts}
+use Rattle.board_c.proofs.ReplyFacts.{counted_of}
 use Rattle.board_c.proofs.register.replies.write_shown_counts.Goals as goal
 
 pub returns : goal.returns
 returns c =
-    subst (λ (words : List ℕ). WritesCounts c.args.majority words c.write_counts.result c.args.counts.now c.write_counts.new.counts)
-    c.shown_sheet.ensures.same c.write_counts.ensures
+    let shows = λ (words : List ℕ). ShowsCounts c.args.majority words c.write_counts.new.counts in
+    counted_of c.args.majority _ _ _ _ _ shows (λ (s : Sequential). shows (published_sheet s)) (subst shows c.shown_sheet.ensures.same) c.write_counts.ensures

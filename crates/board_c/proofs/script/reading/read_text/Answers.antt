@@ -3,7 +3,7 @@ use Rattle.std.proofs.lemmas.Result.{err_from_is_err_and}
 use Rattle.council_core.specs.Ledgers.{start_verdict}
 use Rattle.council_core.specs.Rolls.{Opening}
 use Rattle.board_c.specs.Written.{ChecksOpening}
-use Rattle.board_c.proofs.InputFacts.{members-read, script-fault, script-items, unchecked-end, unchecked-items, unopened-end, unopened-items}
+use Rattle.board_c.proofs.InputFacts.{members-read, script-end, script-items, unchecked-end, unchecked-items, unopened-end, unopened-items}
 use Rattle.board_c.proofs.PlainFacts.{left-of}
 use Rattle.board_c.proofs.script.reading.read_text.Goals as goal
 
@@ -57,5 +57,5 @@ returns-clause-items c =
 pub returns-clause-end : goal.returns-clause-end
 returns-clause-end c =
     let verdict : start_verdict c.read_opening.new.members.items c.args.limits.journal ≡ Ok tt = rw c.as_slice.ensures.value at c.in_ok-_register.ensures.checked in
-    rw (script-fault c.args.limits c.args.text.now c.requires.in_range c.requires.short c.new-script.result c.new-script.ensures.records
-    c.read_opening.new.members.items c.in_ok-first.first c.read_opening.new.script c.in_ok-first.ensures.opened verdict) c.read_records.ensures.end
+    script-end c.args.limits c.args.text.now c.requires.in_range c.requires.short c.new-script.result c.new-script.ensures.records
+    c.read_opening.new.members.items c.in_ok-first.first c.read_opening.new.script c.in_ok-first.ensures.opened c.read_records.result verdict c.read_records.ensures.end

@@ -34,19 +34,17 @@ returns-in_err-next-clause-end c =
     rw p.1 (end-lost c.args.text.now c.args.limits c.args.first c.args.script.now c.records.number c.records.at c.records.script c.args.items.now c.records.items c.records.count c.records.invariant.so
     c.in_err-next.field-0.0 p.0 c.in_err-next.ensures.causes p.2)
 
-pub returns-in_err-item-clause-items : goal.returns-in_err-item-clause-items
-returns-in_err-item-clause-items c =
+pub returns-in-Err-clause-items : goal.returns-in-Err-clause-items
+returns-in-Err-clause-items c =
     let next : c.records.script ≡ fields_of c.next.new.row ∷ c.next.new.self = rw c.if-not-branch.false at c.in_ok-next.ensures.taken in
-    let p = err_from_is_err_and c.from_residual-in_err-item.result c.from_residual-in_err-item.ensures.1 in
-    rw p.1 (items-passed c.args.text.now c.args.limits c.args.first c.args.script.now c.records.number c.records.at c.records.script c.args.items.now c.records.items c.records.count c.records.invariant.so _ _ next
-    c.line_after-span.result c.item_in.result c.in_err-item.field-0.0 p.0 c.in_err-item.was c.item_in.ensures p.2)
+    items-passed c.args.text.now c.args.limits c.args.first c.args.script.now c.records.number c.records.at c.records.script c.args.items.now c.records.items c.records.count c.records.invariant.so _ _ next
+    c.in-Err.why c.at.result c.in-Err.ensures.same c.at.ensures.same
 
-pub returns-in_err-item-clause-end : goal.returns-in_err-item-clause-end
-returns-in_err-item-clause-end c =
+pub returns-in-Err-clause-end : goal.returns-in-Err-clause-end
+returns-in-Err-clause-end c =
     let next : c.records.script ≡ fields_of c.next.new.row ∷ c.next.new.self = rw c.if-not-branch.false at c.in_ok-next.ensures.taken in
-    let p = err_from_is_err_and c.from_residual-in_err-item.result c.from_residual-in_err-item.ensures.1 in
-    rw p.1 (end-passed c.args.text.now c.args.limits c.args.first c.args.script.now c.records.number c.records.at c.records.script c.args.items.now c.records.items c.records.count c.records.invariant.so _ _ next
-    c.line_after-span.result c.item_in.result c.in_err-item.field-0.0 p.0 c.in_err-item.was c.item_in.ensures p.2)
+    end-passed c.args.text.now c.args.limits c.args.first c.args.script.now c.records.number c.records.at c.records.script c.args.items.now c.records.items c.records.count c.records.invariant.so _ _ next
+    c.in-Err.why c.at.result c.in-Err.ensures.same c.at.ensures.same
 
 pub records-preserved : goal.records-preserved
 records-preserved c =
@@ -54,7 +52,7 @@ records-preserved c =
     let fewer = ap length next in
     record {
       so = read-item c.args.text.now c.args.limits c.args.first c.args.script.now c.records.number c.records.at c.records.script c.args.items.now c.records.items c.records.count c.records.invariant.so _ _ next
-          c.line_after-span.result c.item_in.result c.in_ok-item.item c.put.new.list c.line_after-span.ensures.line c.in_ok-item.was c.item_in.ensures c.put.ensures;
+          c.line_after-span.result c.in-Ok.request c.item_for.result c.put.new.list c.line_after-span.ensures.line c.in-Ok.ensures.same c.item_for.ensures.item c.put.ensures;
       inside = c.line_after-span.ensures.within;
       numbers = omega (arith, c.records.invariant.numbers, fewer);
       few = omega (arith, c.records.invariant.few);

@@ -1,7 +1,7 @@
 use Rattle.std.proofs.Common.{rules, ap, ◌∙◌, ◌++◌, ◌∷◌, [], arith}
 use Rattle.power_index.specs.declared.indices.Indices.{Indices}
 use Rattle.board_serve.specs.declared.reader_work.ReaderWork.{ReaderWork}
-use Rattle.board_text.proofs.IndexFacts.{found-at}
+use Rattle.board_text.proofs.Face.{found-at}
 use Rattle.board_serve.proofs.WorkFacts.{answered-more, none-read, read-more}
 use Rattle.board_serve.proofs.reader_work.ReaderWork.ask_in_order.Goals as goal
 

@@ -1,6 +1,5 @@
-use Rattle.std.proofs.Common.{sym, subst}
+use Rattle.board_share.proofs.Names.{IsLegalSheet, subst, sym}
 use Rattle.board_share.specs.Analysts.{AnalystSeen}
-use Rattle.board_share.specs.Readers.{IsLegalSheet}
 use Rattle.board_share.proofs.analysts.Analyst.ask.Goals as goal
 
 pub returns-clause-sheet : goal.returns-clause-sheet

@@ -1,8 +1,5 @@
-use Rattle.std.proofs.Common.{◌∙◌, ◌++◌, ◌∷◌, [], ap, subst}
-use Rattle.std.specs.Arc.{arc_value}
-use Rattle.council_core.specs.Rolls.{Opening}
-use Rattle.two_copy_steps.specs.declared.views.Stage.TheVariants.{AtRest}
-use Rattle.board_share.specs.Readers.{ReaderSeen, reader_at, IsLegalSheet}
+use Rattle.board_share.proofs.Names.{[], ap, arc_value, AtRest, IsLegalSheet, Opening, reader_at, ReaderSeen, subst}
+use Rattle.board_share.proofs.Names.{◌++◌, ◌∙◌, ◌∷◌}
 use Rattle.board_share.proofs.WholeReadings.{above, last_legal, last_is}
 use Rattle.board_share.proofs.readers.Reader.read.Goals as goal
 

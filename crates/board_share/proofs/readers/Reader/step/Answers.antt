@@ -1,7 +1,6 @@
-use Rattle.std.proofs.Common.{◌∙◌, ap, subst}
+use Rattle.board_share.proofs.Names.{ap, ReaderSeen, subst, ◌∙◌}
 use Rattle.two_copy_steps.specs.States.{EndsWith}
 use Rattle.two_copy_steps.specs.Stages.{IsReadable, sheet_read}
-use Rattle.board_share.specs.Readers.{ReaderSeen}
 use Rattle.board_share.proofs.ReaderSeats.{took_from}
 use Rattle.board_share.proofs.WholeReadings.{counted, ended}
 use Rattle.board_share.proofs.readers.Reader.step.Goals as goal

@@ -1,4 +1,5 @@
-use Rattle.std.proofs.Common.{◌∙◌, nat_lt, length, suc, sym, true≢false}
+use Rattle.board_share.proofs.Names.{length, suc, sym, true≢false, ◌∙◌}
+use Rattle.std.proofs.Common.{nat_lt}
 use Rattle.board_share.proofs.writers.Writer.publish.Goals as goal
 
 pub returns-in-Ok-clause-steps : goal.returns-in-Ok-clause-steps

@@ -1,7 +1,5 @@
-use Rattle.std.proofs.Common.{◌≡◌, ◌∙◌, None, Some, sym, ap, subst}
-use Rattle.std.specs.List.{last_or}
+use Rattle.board_share.proofs.Names.{ap, last_or, None, Publisher, Some, subst, sym, ◌∙◌, ◌≡◌}
 use Rattle.std.specs.List.Sorted.{IsStrictlyIncreasing}
-use Rattle.board_share.specs.Writers.{Publisher}
 use Rattle.board_share.proofs.WriterSeats.{cuts}
 use Rattle.board_share.proofs.writers.Writer.published.Goals as goal
 

@@ -1,7 +1,4 @@
-use Rattle.std.proofs.Common.{◌∙◌, ◌-◌, Bool, List, length, sym, ap, subst}
-use Rattle.std.specs.Arc.{arc_value}
-use Rattle.two_copy_steps.specs.declared.views.WriterView.{WriterView}
-use Rattle.board_share.specs.Writers.{IsWriter}
+use Rattle.board_share.proofs.Names.{ap, arc_value, Bool, IsWriter, length, List, subst, sym, WriterView, ◌-◌, ◌∙◌}
 use Rattle.board_share.proofs.WriterSeats.{published, gave_up, held, published_seat}
 use Rattle.board_share.proofs.writers.Writer.try_publish.Goals as goal
 

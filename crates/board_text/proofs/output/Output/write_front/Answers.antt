@@ -6,4 +6,4 @@ returns-clause-front g c = front-written_by _ _ c.write_text.result _ c.write_te
 
 pub returns-clause-whole_or_failed : goal.returns-clause-whole_or_failed
 returns-clause-whole_or_failed g c =
-    whole-or-failed c.args.self.now c.write_text.new.self c.write_text.result c.args.text.now c.write_text.ensures.written c.write_text.ensures.vain
+    whole-or-failed c.args.self.now c.write_text.new.self c.write_text.result c.args.text.now c.write_text.ensures.written c.write_text.ensures.failed

@@ -1,7 +1,8 @@
-use Rattle.std.proofs.Common.{◌≤◌, length, drop, arith, ◌∙◌}
+use Rattle.std.proofs.Common.{◌≤◌, length, drop, ap, sym, arith, ◌∙◌}
+use Rattle.board_text.specs.Sinks.{Sink}
 use Rattle.std.proofs.lemmas.List.{length-drop}
 use Rattle.std.proofs.lemmas.Result.{err_from_is_err_and}
-use Rattle.board_text.proofs.WriteFacts.{appends-on, front-and-front, rest-of}
+use Rattle.board_text.proofs.WriteFacts.{appends-on, as-first, first-failure, front-and-front, rest-of}
 use Rattle.board_text.proofs.output.Output.write_text.Goals as goal
 
 pub returns-in_err-at-clause-written : goal.returns-in_err-at-clause-written
@@ -13,7 +14,8 @@ returns-in_err-at-clause-written g c =
 pub returns-in_err-at-clause-vain : goal.returns-in_err-at-clause-vain
 returns-in_err-at-clause-vain g c =
     let p = err_from_is_err_and c.from_residual.result c.from_residual.ensures.1 in
-    rw p.1 (omega (arith, c.loop-turn.invariant.vain, c.in_err-at.ensures.vain))
+    let live = first-failure c.loop-turn.self c.write_some.new.self c.loop-turn.invariant.live c.in_err-at.ensures.vain in
+    rw p.1 (as-first c.args.self.now c.write_some.new.self (ap (λ (s : Sink). s.failed) (sym c.self.view_is) ∙ c.if-self.false) (omega (arith, c.loop-turn.invariant.vain, live)))
 
 pub loop-turn-preserved : goal.loop-turn-preserved
 loop-turn-preserved g c =
@@ -22,7 +24,8 @@ loop-turn-preserved g c =
       front = appends-on _ _ _ c.loop-turn.at c.in_ok-at.field-0 c.args.text.now c.loop-turn.invariant.front c.in_ok-at.ensures.taken.1;
       within = omega (arith, took, length-drop c.loop-turn.at c.args.text.now, c.loop-turn.invariant.within);
       bound = c.in_ok-at.ensures.bound;
-      continues = (c.in_ok-at.ensures.continues.0 ∙ c.loop-turn.invariant.continues.0, omega (arith, c.loop-turn.invariant.continues.1, c.in_ok-at.ensures.continues.1));
+      live = c.in_ok-at.ensures.live;
+      continues = (c.in_ok-at.ensures.continues.0 ∙ c.loop-turn.invariant.continues.0, c.in_ok-at.ensures.continues.1 ∙ c.loop-turn.invariant.continues.1, omega (arith, c.loop-turn.invariant.continues.2, c.in_ok-at.ensures.continues.2));
       turns = omega (arith, c.loop-turn.invariant.turns, c.in_ok-at.ensures.turn);
       asked = omega (arith, c.loop-turn.invariant.asked, c.in_ok-at.ensures.once);
       vain = omega (arith, c.loop-turn.invariant.vain, c.in_ok-at.ensures.vain);

@@ -1,8 +1,5 @@
-use Rattle.std.proofs.Common.{◌≡◌, sym, ap, ◌∙◌, arith}
-use Rattle.two_copy_steps.specs.declared.events.Event.TheVariants.{Publish}
-use Rattle.two_copy_steps.specs.declared.events.Note.TheVariants.{Began}
-use Rattle.two_copy_steps.specs.Transitions.{MachineState, is_idle, transition}
-use Rattle.two_copy_steps.specs.Machines.{seen_as}
+use Rattle.two_copy_steps.proofs.Names.{ap, arith, Began, is_idle, MachineState, Publish, seen_as, sym, transition, ◌∙◌}
+use Rattle.two_copy_steps.proofs.Names.{◌≡◌}
 use Rattle.two_copy_steps.proofs.Steps.{begun_in, publishable, publish_stays}
 use Rattle.two_copy_steps.proofs.machine.Machine.begin.Goals as goal
 

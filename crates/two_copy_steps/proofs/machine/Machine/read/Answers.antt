@@ -1,4 +1,5 @@
-use Rattle.std.proofs.Common.{◌≡◌, ◌<◌, ◌⊎◌, inl, inr, length, sym, arith}
+use Rattle.two_copy_steps.proofs.Names.{arith, inr, length, sym, ◌<◌, ◌≡◌, ◌⊎◌}
+use Rattle.std.proofs.Common.{inl}
 use Rattle.two_copy_steps.proofs.Steps.{skipped_at, seat_here, seat_within, seat_readable, read_at, read_machine}
 use Rattle.two_copy_steps.proofs.machine.Machine.read.Goals as goal
 use Rattle.two_copy_steps.proofs.machine.Machine.read.Goals.{then-number-eq0-via-then-number-eq0, then-number-eq0-via-else-number-eq0+then-len-number}

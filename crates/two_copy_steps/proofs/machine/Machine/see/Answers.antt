@@ -1,4 +1,4 @@
-use Rattle.std.proofs.Common.{ℕ, ◌<◌, length, get_or, ◌∙◌, ap, sym, subst}
+use Rattle.two_copy_steps.proofs.Names.{ap, get_or, length, subst, sym, ℕ, ◌<◌, ◌∙◌}
 use Rattle.two_copy_steps.proofs.Steps.{first_at, gave_up_at, saw_out_at, wrote_stays}
 use Rattle.two_copy_steps.proofs.machine.Machine.see.Goals as goal
 

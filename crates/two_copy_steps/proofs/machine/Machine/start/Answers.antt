@@ -1,4 +1,4 @@
-use Rattle.std.proofs.Common.{ap, ◌∙◌, List, ℕ, ◌∷◌, ◌++◌, replicate, arith}
+use Rattle.two_copy_steps.proofs.Names.{ap, arith, List, replicate, ℕ, ◌++◌, ◌∙◌, ◌∷◌}
 use Rattle.two_copy_steps.proofs.Steps.{publishable, start_is}
 use Rattle.two_copy_steps.proofs.machine.Machine.start.Goals as goal
 

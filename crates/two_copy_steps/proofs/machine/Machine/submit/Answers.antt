@@ -1,8 +1,6 @@
-use Rattle.std.proofs.Common.{◌≡◌, sym, ap, ◌∙◌, subst, IfOk}
-use Rattle.two_copy_steps.specs.declared.events.Note.{Note}
-use Rattle.two_copy_steps.specs.declared.events.Event.TheVariants.{Submit}
-use Rattle.two_copy_steps.specs.Transitions.{MachineState, is_idle, transition}
-use Rattle.two_copy_steps.specs.Machines.{seen_as}
+use Rattle.two_copy_steps.proofs.Names.{ap, is_idle, MachineState, Note, seen_as, Submit, subst, sym, transition, ◌∙◌}
+use Rattle.two_copy_steps.proofs.Names.{◌≡◌}
+use Rattle.std.proofs.Common.{IfOk}
 use Rattle.two_copy_steps.proofs.Steps.{handed_machine, handed_transition}
 use Rattle.two_copy_steps.proofs.machine.Machine.submit.Goals as goal
 

@@ -1,4 +1,4 @@
-use Rattle.std.proofs.Common.{arith}
+use Rattle.two_copy_steps.proofs.Names.{arith}
 use Rattle.two_copy_steps.proofs.Steps.{swapped_at, wrote_stays}
 use Rattle.two_copy_steps.proofs.machine.Machine.swap.Goals as goal
 
