@@ -153,7 +153,7 @@ class Facts:
         """The refusals by number, from 1."""
         text = text_of("crates/council_core/src/refusals.rt")
         table = text.partition("macro_rules! refusals")[2].partition("// An array")[0]
-        reserved = re.findall(r"No call fails with it\.\n    (\w+) = \d+,", text)
+        reserved = re.findall(r"[Nn]o call fails with it\.\n    (\w+) = \d+,", text)
         return [
             Refusal(number, name, reason, name in reserved)
             for number, (name, reason) in enumerate(re.findall(r'^ +(\w+): "(.*)",$', table, re.M), 1)

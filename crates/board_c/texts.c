@@ -43,7 +43,8 @@ static const char *const refusals[] = {
     "NoRegister",
     "BadIndex",
 };
-static const char *const majorities[BOARD_MAJORITIES] = {"half", "70", "85", "quorum"};
+static const char *const majorities[] = {"half", "70", "85", "quorum"};
+typedef char each_majority_has_a_word[sizeof majorities / sizeof *majorities == BOARD_MAJORITIES ? 1 : -1];
 static const char *const kinds[] = {"open", "close", "move", "votes", "suspend", "restore", "admit", "withdraw"};
 
 const char *board_version(void) { return BOARD_VERSION; }

@@ -158,8 +158,8 @@ test("files of other kinds, and pages that browsers take long to read", () => {
   assert.equal(contentsOf({ text: `<html>${"<td>".repeat(20_000)}${"<b></b><sup>".repeat(50_000)}` }).kind, "page");
   assert.throws(() => contentsOf({ text: `<html>${"<td>".repeat(20_001)}` }), /more than 20,000 tags/);
   const most = reader.MOST_TEXT;
-  assert.throws(() => contentsOf({ text: `<table>${"x".repeat(most)}` }), /has 1,048,583 letters, and at most/);
-  assert.throws(() => contentsOf({ text: "1,".repeat(most / 2 + 1) }), /This text has 1,048,578 letters/);
+  assert.throws(() => contentsOf({ text: `<table>${"x".repeat(most)}` }), /has 1,048,583 characters, and at most/);
+  assert.throws(() => contentsOf({ text: "1,".repeat(most / 2 + 1) }), /This text has 1,048,578 characters/);
   const page = `<!DOCTYPE html><script type="application/json" id="study-data">{"a": 1}</script>${deep}`;
   assert.deepEqual(contentsOf({ text: page }), { kind: "study", json: '{"a": 1}' });
   assert.equal(contentsOf({ text: '{"format": "board study 2"}' }).kind, "study");

@@ -360,11 +360,11 @@ static void prepare(void) {
 
 static int is_help(const char *word) { return !strcmp(word, "--help") || !strcmp(word, "-h"); }
 
-/* Writes the help or the version. */
+/* Writes the help or the version, and ends well also where they can't be written, as docs/FORMATS.md says. */
 static int show(int version) {
     if (version) printf("board %s (compiled from board.c)\n", board_version());
     else fputs(usage, stdout);
-    return end(BOARD_DONE);
+    return WELL;
 }
 
 int main(int count, char **words) {

@@ -119,7 +119,7 @@ def command_term(fields: list[str]) -> str:
 
 def struct(kind: int, letters: bytes = b"\0\0\0\0", chair: int = 0, votes: int = 0) -> str:
     """A command as the struct of C."""
-    return f"(command_with {kind} ({listed(letters)}) {chair} {votes})"
+    return f"(fields_with {kind} ({listed(letters)}) {chair} {votes})"
 
 
 def struct_of(fields: list[str]) -> str:

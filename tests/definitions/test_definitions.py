@@ -41,7 +41,7 @@ use Rattle.std.specs.Fmt.{digits}
 use Rattle.csv.specs.Machine.{next_record}
 use Rattle.csv.specs.Reading.{records_from, strip_bom}
 use Rattle.board_text.specs.Scripts.{script_course}
-use Rattle.board_text.specs.Text.{started_of, opening_of, output, run_limits}
+use Rattle.board_text.specs.Text.{started_of, preamble_after_header, output, run_limits}
 """
 SERVING = """use Rattle.board_text.specs.Lines.{audit_line}
 use Rattle.board_text.specs.Text.{stopped_run, text_of}
@@ -60,7 +60,7 @@ use Rattle.council_core.specs.declared.commands.Command.TheVariants.{Admit, With
 """
 GIVEN = """use Rattle.council_core.specs.declared.refusals.Refusal.TheVariants.{BadChair, BadMember, BadRecord}
 use Rattle.council_core.specs.declared.refusals.Refusal.TheVariants.{VotesTooLarge}
-use Rattle.c_values.specs.Given.{command_as, command_with, given_command}
+use Rattle.c_values.specs.Given.{command_as, fields_with, given_command}
 """
 AUDITING = """use Rattle.council_core.specs.declared.refusals.Refusal.TheVariants.{DuplicateMember}
 use Rattle.board_audits.specs.Audits.{audit_of}
@@ -68,9 +68,9 @@ use Rattle.board_audits.specs.declared.audits.AuditFault.TheVariants.{Start, Bad
 """
 ITEMS = """use Rattle.board_c.specs.Contents.{items_from, items_of}
 use Rattle.board_c.specs.Items.{item_with}
-use Rattle.c_values.specs.Given.{command_with}
+use Rattle.c_values.specs.Given.{fields_with}
 """
-UNFOLDED = "unfolding started_of opening_of script_course records_from strip_bom next_record digits"
+UNFOLDED = "unfolding started_of preamble_after_header script_course records_from strip_bom next_record digits"
 
 
 @dataclass(frozen=True)

@@ -27,6 +27,7 @@ WORDS = [
 ]  # fmt: skip
 # Words that a terminal would obey: an escape, a delete, the end of a line, a control character of Latin-1.
 OBEYED = ["\x1b[31m", "a\x7f", "a\nb", "\x9b31m"]
+HELP = ["--help", "-h", "help", "replay --help", "--version", "-V"]
 # What the shell does with the standard streams of a command.
 STREAMS = ["</", "<&-", ">/dev/full", ">&-", "| head -c 1"]
 # A replay reads its input in pieces. In pieces this short each place is the end of one.
@@ -65,6 +66,15 @@ def redirected(words: Words, command: str, stream: str, name: str) -> Ended:
     """A run on an input at a limit. Its status is that of the command, not of `head`."""
     shell = f'"$@" {stream}; exit "${{PIPESTATUS[0]}}"'
     return ended(["bash", "-c", shell, "bash", *words, command], at_limit(name))
+
+
+@on([GCC])
+@pytest.mark.parametrize("stream", [">/dev/full", ">&-"])
+def test_help_unwritten(built: Built, stream: str) -> None:
+    # Catches: another end than docs/FORMATS.md says for help or a version that can't be written.
+    for words in HELP:
+        shell = ["bash", "-c", f'"$@" {stream}', "bash", *built.program(), *words.split()]
+        assert ended(shell) == Ended(0, b"", b""), words
 
 
 @on(SYSTEMS)

@@ -1,20 +1,19 @@
-# Which versions of the library this one can stand for: those with the same first two numbers that aren't newer.
+# Which versions of the library this one can stand for: those with the same first number, before 1.0 with the same first
+# two, that aren't newer.
 set(PACKAGE_VERSION "@version@")
 set(PACKAGE_VERSION_COMPATIBLE FALSE)
 set(PACKAGE_VERSION_EXACT FALSE)
-set(_board_asked "${PACKAGE_FIND_VERSION_MAJOR}.${PACKAGE_FIND_VERSION_MINOR}")
-string(REGEX MATCH "^[0-9]+" _board_first "@version@")
-if(PACKAGE_FIND_VERSION_COUNT EQUAL 1 AND PACKAGE_FIND_VERSION_MAJOR EQUAL _board_first)
-  set(_board_asked "@minor@")
+set(_board_asked "${PACKAGE_FIND_VERSION_MAJOR}")
+if("@numbers@" MATCHES "[.]" AND PACKAGE_FIND_VERSION_COUNT GREATER 1)
+  set(_board_asked "${PACKAGE_FIND_VERSION_MAJOR}[.]${PACKAGE_FIND_VERSION_MINOR}")
 endif()
-if(_board_asked VERSION_EQUAL "@minor@" AND NOT PACKAGE_FIND_VERSION VERSION_GREATER PACKAGE_VERSION)
+if("@numbers@." MATCHES "^${_board_asked}[.]" AND NOT PACKAGE_FIND_VERSION VERSION_GREATER PACKAGE_VERSION)
   set(PACKAGE_VERSION_COMPATIBLE TRUE)
 endif()
 if(PACKAGE_FIND_VERSION VERSION_EQUAL PACKAGE_VERSION)
   set(PACKAGE_VERSION_EXACT TRUE)
 endif()
 unset(_board_asked)
-unset(_board_first)
 # The library is for processors with addresses of 64 bits.
 if(CMAKE_SIZEOF_VOID_P AND NOT CMAKE_SIZEOF_VOID_P EQUAL 8)
   set(PACKAGE_VERSION "${PACKAGE_VERSION} (64-bit)")

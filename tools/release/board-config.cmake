@@ -1,4 +1,4 @@
-# The library for C, wherever the release is unpacked: find_package(board @minor@ REQUIRED), with the release's folder
+# The library for C, wherever the release is unpacked: find_package(board @numbers@ REQUIRED), with the release's folder
 # in CMAKE_PREFIX_PATH.
 #
 # Then target_link_libraries(PROGRAM board::board) compiles and links with the library: the static one, if
@@ -8,7 +8,7 @@ cmake_policy(VERSION 3.5)
 get_filename_component(_board_top "${CMAKE_CURRENT_LIST_DIR}/../../.." ABSOLUTE)
 
 set(_board_static "${_board_top}/lib/libboard.a")
-set(_board_shared "${_board_top}/lib/libboard.so.@minor@")
+set(_board_shared "${_board_top}/lib/libboard.so.@numbers@")
 set(board_static_FOUND TRUE)
 set(board_shared_FOUND TRUE)
 if(NOT TARGET board::static)
@@ -22,7 +22,7 @@ if(NOT TARGET board::shared)
   add_library(board::shared SHARED IMPORTED)
   set_target_properties(board::shared PROPERTIES
     IMPORTED_LOCATION "${_board_shared}"
-    IMPORTED_SONAME "libboard.so.@minor@"
+    IMPORTED_SONAME "libboard.so.@numbers@"
     INTERFACE_INCLUDE_DIRECTORIES "${_board_top}/include")
 endif()
 

@@ -1,6 +1,7 @@
 /**
  * The exact voting power of a board, counted over all coalitions of its chairs, and a register of members, votes and
- * chairs. The calls of the module board.wasm are proved; this package, which makes values of its answers, is tested.
+ * chairs. The module board.wasm is compiled from proved source. The compilation and this package, which makes values of
+ * its answers, are tested.
  */
 import packed from "board.wasm";
 import { setPacked } from "./load.js";

@@ -1,5 +1,5 @@
 -- Audits at the limits of cuts and readings and one beside them, computed; and what first mismatches exclude.
-use Rattle.std.proofs.Common.{◌≡◌, ◌≤◌, ◌++◌, inr, ℕ, suc, List, [], ◌∷◌, Some, Ok, Err, refl, sym, ap, arith, take, slice_get, slice_index_or, subst, ⊎_elim}
+use Rattle.std.proofs.Common.{◌≡◌, ◌++◌, inr, ℕ, suc, List, [], ◌∷◌, Some, Ok, Err, refl, sym, ap, arith, take, slice_get, slice_index_or, subst, ⊎_elim}
 use Rattle.std.proofs.lemmas.Bool.{cases_eq}
 use Rattle.std.specs.Prelude.{⊤}
 use Rattle.council_core.specs.Rolls.{IsLegal, sheet}

@@ -11,7 +11,7 @@ use Rattle.council_core.specs.declared.refusals.Refusal.TheVariants.{BadLimit, T
 use Rattle.board_text.specs.Output.{Fails, ReadTo}
 use Rattle.board_text.specs.Requests.{Row}
 use Rattle.board_text.specs.Scripts.{started_course, course_of_script}
-use Rattle.board_text.specs.Text.{Started, Opened, started_of, fault_at, in_range, ledger_at_start, opened_of, request_within, started_after, started_with}
+use Rattle.board_text.specs.Text.{Started, Preamble, started_of, fault_at, in_range, ledger_at_start, preamble_of, request_within, started_after, started_with}
 use Rattle.board_text.specs.declared.bounds.Limits.{Limits}
 use Rattle.board_text.specs.declared.faults.Fault.{Fault}
 use Rattle.board_text.specs.declared.stops.Stop.{Stop}
@@ -58,14 +58,14 @@ module _ (lim : Limits) (bytes : List ℕ) where
       pub members-rows : members_of lim bytes ≡ members_in (input_rows bytes)
       members-rows = rw (fits, le-leb _ _ short) refl
 
-      begun-rows : started_of lim bytes ≡ started_after lim (opened_of rows)
+      begun-rows : started_of lim bytes ≡ started_after lim (preamble_of rows)
       unfolding started_of
       begun-rows = rw (fits, le-leb _ _ short) refl
 
-      pub begun-fault : (f : Fault) → opened_of rows ≡ Err f → started_of lim bytes ≡ Err f
+      pub begun-fault : (f : Fault) → preamble_of rows ≡ Err f → started_of lim bytes ≡ Err f
       begun-fault f e = begun-rows ∙ ap (started_after lim) e
 
-      module _ (members : Opening) (n : ℕ) (left : List Row) (opened : opened_of rows ≡ Ok (members, n, left)) where
+      module _ (members : Opening) (n : ℕ) (left : List Row) (opened : preamble_of rows ≡ Ok (members, n, left)) where
         pub begun-refused : (why : Refusal) → start_verdict members lim.journal ≡ Err why → started_of lim bytes ≡ Err (fault_at why 0)
         begun-refused why verdict = begun-rows ∙ ap (started_after lim) opened ∙ rw verdict refl
 
@@ -74,10 +74,10 @@ module _ (lim : Limits) (bytes : List ℕ) where
 
 -- what was read of an input, by the result of reading its opening
 module _ (lim : Limits) (bytes : List ℕ) where
-  pub items-refused : (d : Stop) (f : Fault) → d ≡ stop.Input f → started_of lim bytes ≡ Err f → ReadTo {T = Unit {0}} (Err d) [] (items_of lim bytes)
+  pub items-refused : (d : Stop) (f : Fault) → d ≡ stop.Fault f → started_of lim bytes ≡ Err f → ReadTo {T = Unit {0}} (Err d) [] (items_of lim bytes)
   items-refused d f is begun = rw is (sym (items-by lim bytes (Err f) begun))
 
-  pub end-refused : (d : Stop) (f : Fault) → d ≡ stop.Input f → started_of lim bytes ≡ Err f → EndsReading {T = Unit {0}} (Err d) (run_of lim bytes).end
+  pub end-refused : (d : Stop) (f : Fault) → d ≡ stop.Fault f → started_of lim bytes ≡ Err f → EndsReading {T = Unit {0}} (Err d) (run_of lim bytes).end
   end-refused d f is begun = rw is (end-by lim bytes (Err f) begun)
 
   -- no item was written
@@ -85,40 +85,40 @@ module _ (lim : Limits) (bytes : List ℕ) where
   none-written d old count zero read = record { got = []; read = read; spans = all-none (SpansItsLine bytes); written = sym (overlaid-none old); counted = zero }
 
   module _ (fits : in_range lim ≡ true) (short : length bytes ≤ INPUT_LIMIT) (script : List Row) (same : script ≡ input_rows bytes) where
-    items-unopened : (e : Stop) → Fails e (opened_of script) → ReadTo {T = Unit {0}} (Err e) [] (items_of lim bytes)
+    items-unopened : (e : Stop) → Fails e (preamble_of script) → ReadTo {T = Unit {0}} (Err e) [] (items_of lim bytes)
     items-unopened stop.OutOfMemory p = front-none (items_of lim bytes)
     items-unopened stop.ReadFault p = front-none (items_of lim bytes)
     items-unopened stop.WriteFault p = absurd p
-    items-unopened (stop.Input f) p = items-refused (stop.Input f) f refl (begun-fault lim bytes fits short f (rw same at p))
+    items-unopened (stop.Fault f) p = items-refused (stop.Fault f) f refl (begun-fault lim bytes fits short f (rw same at p))
 
-    end-unopened : (e : Stop) → Fails e (opened_of script) → EndsReading {T = Unit {0}} (Err e) (run_of lim bytes).end
+    end-unopened : (e : Stop) → Fails e (preamble_of script) → EndsReading {T = Unit {0}} (Err e) (run_of lim bytes).end
     end-unopened stop.OutOfMemory p = tt
     end-unopened stop.ReadFault p = tt
     end-unopened stop.WriteFault p = absurd p
-    end-unopened (stop.Input f) p = end-refused (stop.Input f) f refl (begun-fault lim bytes fits short f (rw same at p))
+    end-unopened (stop.Fault f) p = end-refused (stop.Fault f) f refl (begun-fault lim bytes fits short f (rw same at p))
 
     -- the opening wasn't read
-    pub unopened-items : (e d : Stop) (old : List BoardItem) (count : ℕ) → d ≡ e → Fails e (opened_of script) → count ≡ 0 → ReadItems {T = Unit {0}} (Err d) bytes (items_of lim bytes) count old old
+    pub unopened-items : (e d : Stop) (old : List BoardItem) (count : ℕ) → d ≡ e → Fails e (preamble_of script) → count ≡ 0 → ReadItems {T = Unit {0}} (Err d) bytes (items_of lim bytes) count old old
     unopened-items e d old count is p zero = rw is (none-written e old count zero (items-unopened e p))
 
-    pub unopened-end : (e d : Stop) → d ≡ e → Fails e (opened_of script) → EndsReading {T = Unit {0}} (Err d) (run_of lim bytes).end
+    pub unopened-end : (e d : Stop) → d ≡ e → Fails e (preamble_of script) → EndsReading {T = Unit {0}} (Err d) (run_of lim bytes).end
     unopened-end e d is p = rw is (end-unopened e p)
 
-    module _ (members : Opening) (n : ℕ) (left : List Row) (opened : opened_of script ≡ Ok (members, n, left)) where
-      now-opened : opened_of (input_rows bytes) ≡ Ok (members, n, left)
+    module _ (members : Opening) (n : ℕ) (left : List Row) (opened : preamble_of script ≡ Ok (members, n, left)) where
+      now-opened : preamble_of (input_rows bytes) ≡ Ok (members, n, left)
       now-opened = rw same at opened
 
       items-unchecked : (e : Stop) → ChecksOpening (start_verdict members lim.journal) (Err e) → ReadTo {T = Unit {0}} (Err e) [] (items_of lim bytes)
       items-unchecked stop.OutOfMemory p = front-none (items_of lim bytes)
       items-unchecked stop.ReadFault p = absurd p
       items-unchecked stop.WriteFault p = absurd p
-      items-unchecked (stop.Input f) p = items-refused (stop.Input f) (fault_at p.0 0) (ap stop.Input p.2) (begun-refused lim bytes fits short members n left now-opened p.0 p.1)
+      items-unchecked (stop.Fault f) p = items-refused (stop.Fault f) (fault_at p.0 0) (ap stop.Fault p.2) (begun-refused lim bytes fits short members n left now-opened p.0 p.1)
 
       end-unchecked : (e : Stop) → ChecksOpening (start_verdict members lim.journal) (Err e) → EndsReading {T = Unit {0}} (Err e) (run_of lim bytes).end
       end-unchecked stop.OutOfMemory p = tt
       end-unchecked stop.ReadFault p = absurd p
       end-unchecked stop.WriteFault p = absurd p
-      end-unchecked (stop.Input f) p = end-refused (stop.Input f) (fault_at p.0 0) (ap stop.Input p.2) (begun-refused lim bytes fits short members n left now-opened p.0 p.1)
+      end-unchecked (stop.Fault f) p = end-refused (stop.Fault f) (fault_at p.0 0) (ap stop.Fault p.2) (begun-refused lim bytes fits short members n left now-opened p.0 p.1)
 
       -- the register can't start
       pub unchecked-items : (e d : Stop) (old : List BoardItem) (count : ℕ) → d ≡ e → ChecksOpening (start_verdict members lim.journal) (Err e) → count ≡ 0 → ReadItems {T = Unit {0}} (Err d) bytes (items_of lim bytes) count old old
@@ -137,27 +137,27 @@ module _ (lim : Limits) (bytes : List ℕ) where
     -- all members were read
     pub members-read : (r : Result (Unit {0}) Stop) (got : Opening) → got ≡ members_in script → ReadTo r got (members_of lim bytes)
     members-read (Ok u) got is = is ∙ ap members_in same ∙ sym (members-rows lim bytes fits short)
-    members-read (Err (stop.Input f)) got is = is ∙ ap members_in same ∙ sym (members-rows lim bytes fits short)
+    members-read (Err (stop.Fault f)) got is = is ∙ ap members_in same ∙ sym (members-rows lim bytes fits short)
     members-read (Err stop.OutOfMemory) got is = rw (is ∙ ap members_in same ∙ sym (members-rows lim bytes fits short)) (front-whole (members_of lim bytes))
     members-read (Err stop.ReadFault) got is = rw (is ∙ ap members_in same ∙ sym (members-rows lim bytes fits short)) (front-whole (members_of lim bytes))
     members-read (Err stop.WriteFault) got is = rw (is ∙ ap members_in same ∙ sym (members-rows lim bytes fits short)) (front-whole (members_of lim bytes))
 
 -- where the script begins, the members are those of the register at its start
-start-members : (lim : Limits) (got : Opening) (verdict : Result ⊤ Refusal) (o : Opened) → got ≡ o.0 → IfOk (started_with lim verdict o) (λ b. got ≡ b.0.opening)
+start-members : (lim : Limits) (got : Opening) (verdict : Result ⊤ Refusal) (o : Preamble) → got ≡ o.0 → IfOk (started_with lim verdict o) (λ b. got ≡ b.0.opening)
 start-members lim got (Ok u) o is = is
 start-members lim got (Err why) o is = tt
 
-begun-members : (lim : Limits) (got : Opening) (opened : Result Opened Fault) → IfOk opened (λ o. got ≡ o.0) → IfOk (started_after lim opened) (λ b. got ≡ b.0.opening)
+begun-members : (lim : Limits) (got : Opening) (opened : Result Preamble Fault) → IfOk opened (λ o. got ≡ o.0) → IfOk (started_after lim opened) (λ b. got ≡ b.0.opening)
 begun-members lim got (Err f) is = tt
 begun-members lim got (Ok o) is = start-members lim got (start_verdict o.0 lim.journal) o is
 
 by-length : (lim : Limits) (bytes : List ℕ) (short : Bool) (rows : List Row)
-    → IfOk (if short then started_after lim (opened_of rows) else Err (fault_at TooLong 0)) (λ b. (if true && short then members_in rows else []) ≡ b.0.opening)
-by-length lim bytes true rs = begun-members lim (members_in rs) (opened_of rs) (members-opened rs)
+    → IfOk (if short then started_after lim (preamble_of rows) else Err (fault_at TooLong 0)) (λ b. (if true && short then members_in rows else []) ≡ b.0.opening)
+by-length lim bytes true rs = begun-members lim (members_in rs) (preamble_of rs) (members-opened rs)
 by-length lim bytes false rs = tt
 
 by-tests : (lim : Limits) (bytes : List ℕ) (fits short : Bool) (rows : List Row)
-    → IfOk (if fits then (if short then started_after lim (opened_of rows) else Err (fault_at TooLong 0)) else Err (fault_at BadLimit 0)) (λ b. (if fits && short then members_in rows else []) ≡ b.0.opening)
+    → IfOk (if fits then (if short then started_after lim (preamble_of rows) else Err (fault_at TooLong 0)) else Err (fault_at BadLimit 0)) (λ b. (if fits && short then members_in rows else []) ≡ b.0.opening)
 by-tests lim bytes true short rs = by-length lim bytes short rs
 by-tests lim bytes false short rs = tt
 
@@ -173,7 +173,7 @@ pub whole-or-part : (lim : Limits) (bytes : List ℕ) (r : Result (Unit {0}) Sto
     → ReadTo r members (members_of lim bytes) → ReadTo r (map without_span items) (items_of lim bytes) → EndsReading r (run_of lim bytes).end
     → IsWholeInput lim bytes members items (answer_of (end_of r)) (record_of (end_of r)) ⊎ IsPartOfInput lim bytes members items (answer_of (end_of r)) (record_of (end_of r))
 whole-or-part lim bytes (Ok u) members items m i e = inl record { members_read = m; opening = opening-kept lim bytes members m; items_read = i; number = ap answer_of (sym e); at = ap record_of (sym e) }
-whole-or-part lim bytes (Err (stop.Input f)) members items m i e = inl record { members_read = m; opening = opening-kept lim bytes members m; items_read = i; number = ap answer_of (sym e); at = ap record_of (sym e) }
+whole-or-part lim bytes (Err (stop.Fault f)) members items m i e = inl record { members_read = m; opening = opening-kept lim bytes members m; items_read = i; number = ap answer_of (sym e); at = ap record_of (sym e) }
 whole-or-part lim bytes (Err stop.OutOfMemory) members items m i e = inr record { members_front = m; items_front = i; number = refl; at = refl }
 whole-or-part lim bytes (Err stop.ReadFault) members items m i e = inr record { members_front = m; items_front = i; number = refl; at = refl }
 whole-or-part lim bytes (Err stop.WriteFault) members items m i e = inr record { members_front = m; items_front = i; number = refl; at = refl }

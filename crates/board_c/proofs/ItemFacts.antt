@@ -147,15 +147,15 @@ module _ (text : List ℕ) (lim : Limits) (first : ℕ) (rows : List Row) (numbe
         subst (λ (p : LineSpan). ReadSo text lim first rows (number + 1) p.to ss old then (count + 1)) (sym there) (read-more q then (sym asks) (put ∙ ap (set now count) at_place))
 
     -- a record with a fault
-    pub items-stop : (why : Refusal) → request_within lim r ≡ Err why → ReadItems {T = Unit {0}} (Err (stop.Input (fault_at why number))) text (items_from lim first rows) count old now
+    pub items-stop : (why : Refusal) → request_within lim r ≡ Err why → ReadItems {T = Unit {0}} (Err (stop.Fault (fault_at why number))) text (items_from lim first rows) count old now
     items-stop why is = record { got = so.done; read = sym (so.whole ∙ ap (λ l. map without_span so.done ++ l) (items-none why is) ∙ append-nil (map without_span so.done)); spans = so.spans; written = so.written; counted = so.counted }
 
     pub fault-stop : (why : Refusal) → request_within lim r ≡ Err why → (s : Sequential) → end_from lim first s rows ≡ Some (fault_at why number)
     fault-stop why is s = (so.end s).1 ∙ fault-here why is (so.end s).0
 
     -- the same of the fault that is returned
-    pub items-passed : (why : Refusal) (d : Stop) → Err why ≡ request_within lim r → d ≡ stop.Input (fault_at why number) → ReadItems {T = Unit {0}} (Err d) text (items_from lim first rows) count old now
+    pub items-passed : (why : Refusal) (d : Stop) → Err why ≡ request_within lim r → d ≡ stop.Fault (fault_at why number) → ReadItems {T = Unit {0}} (Err d) text (items_from lim first rows) count old now
     items-passed why d refused is = rw is (items-stop why (sym refused))
 
-    pub end-passed : (why : Refusal) (d : Stop) → Err why ≡ request_within lim r → d ≡ stop.Input (fault_at why number) → (s : Sequential) → EndsReading {T = Unit {0}} (Err d) (end_from lim first s rows)
+    pub end-passed : (why : Refusal) (d : Stop) → Err why ≡ request_within lim r → d ≡ stop.Fault (fault_at why number) → (s : Sequential) → EndsReading {T = Unit {0}} (Err d) (end_from lim first s rows)
     end-passed why d refused is s = rw is (fault-stop why (sym refused) s)

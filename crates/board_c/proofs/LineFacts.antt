@@ -40,10 +40,10 @@ is_inside st.InComment = false
 is_inside st.AfterCr = false
 
 -- a byte within a line ends no record
-abbrev GoesOn : State → ℕ → Type 0
-GoesOn s c = (is_inside (step default_config s c).0 ≡ true) × (is_end (step default_config s c).1 ≡ false)
+abbrev IsSameOutput : State → ℕ → Type 0
+IsSameOutput s c = (is_inside (step default_config s c).0 ≡ true) × (is_end (step default_config s c).1 ≡ false)
 
-goes-on : (s : State) (c : ℕ) → is_inside s ≡ true → is_in_line c ≡ true → GoesOn s c
+goes-on : (s : State) (c : ℕ) → is_inside s ≡ true → is_in_line c ≡ true → IsSameOutput s c
 goes-on st.StartRecord c i e = cc
 goes-on st.InEscape c i e = cc
 goes-on st.InComment c i e = cc
@@ -72,7 +72,7 @@ goes-on st.AfterQuote c i e = let n = neither (c == 13) (c == 10) e in elim (cas
 ]
 
 -- likewise one that starts a record
-begins : (c : ℕ) → is_in_line c ≡ true → GoesOn st.StartRecord c
+begins : (c : ℕ) → is_in_line c ≡ true → IsSameOutput st.StartRecord c
 begins c e = let n = neither (c == 13) (c == 10) e in elim (cases_Bool (c == 34)) [
   | inl q ↦ rw (n.0, n.1, q) (refl, refl)
   | inr q ↦ elim (cases_Bool (c == 44)) [

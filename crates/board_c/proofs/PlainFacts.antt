@@ -5,19 +5,26 @@ use Rattle.std.specs.Prelude.{codes, nat_eq, nat_le, nat_lt, option_map}
 use Rattle.std.specs.Char.{is_ascii_digit}
 use Rattle.std.specs.Str.{bytes_eq}
 use Rattle.std.specs.List.{list_all}
-use Rattle.std.specs.Option.{option_and_then}
+use Rattle.std.specs.Option.{option_and_then, option_or}
+use Rattle.std.proofs.lemmas.Option.{option_and_then_some}
 use Rattle.council_core.specs.Codes.{is_capital, is_code}
 use Rattle.council_core.specs.Rolls.{Opening}
 use Rattle.council_core.specs.declared.commands.Command.{Command}
-use Rattle.council_core.specs.declared.commands.Command.TheVariants.{Open, Close, Move, SetVotes, Suspend, Restore, Admit, Withdraw}
+use Rattle.council_core.specs.Commands.{command_of_parts, form_of_kind, kind_of_word, word_of_kind}
+use Rattle.council_core.specs.declared.kinds.CommandKind.{CommandKind}
+use Rattle.council_core.specs.declared.kinds.Form.{Form}
+use Rattle.council_core.specs.declared.kinds.Form.TheVariants as form
+use Rattle.council_core.specs.declared.kinds.Parts.{Parts}
+use Rattle.council_core.specs.declared.kinds.Parts.TheVariants.{Chair, Member, Seat, Votes}
+use Rattle.council_core.proofs.Face.{each-kind, kind-word}
 use Rattle.council_core.specs.declared.limits.TheConstants.{MAX_MEMBERS}
 use Rattle.majority_rule.specs.declared.majorities.Majority.{Majority}
-use Rattle.majority_rule.specs.declared.majorities.Majority.TheVariants.{Half, Seventy, EightyFive, Quorum}
+use Rattle.majority_rule.proofs.Face.{each-majority, majority-word}
 use Rattle.board_text.specs.Numbers.{number_from, number_of_digits}
-use Rattle.board_text.specs.Requests.{Row, command_of_one, command_of_two, first_some, is_header, is_mark, member_of, reading_of, request_of, submission}
-use Rattle.board_text.specs.Text.{Opened, is_served, opened_of, request_within, valid_or_refused}
+use Rattle.board_text.specs.Requests.{Row, command_of, command_of_kind, is_header, is_mark, is_publish, member_of, parts_of_fields, reading_of, request_of, submission}
+use Rattle.board_text.specs.Text.{Preamble, is_served, preamble_of, request_within, valid_or_refused}
 use Rattle.board_text.specs.Words.{chair_of, code_of_member, pair_of, target_chair, votes_of, number_within}
-use Rattle.majority_rule.specs.Majorities.{majority_of}
+use Rattle.majority_rule.specs.Majorities.{majority_of, word_of_majority}
 use Rattle.board_text.specs.declared.bounds.Limits.{Limits}
 use Rattle.board_text.specs.declared.faults.Fault.{Fault}
 use Rattle.board_text.specs.declared.requests.Request.{Request}
@@ -100,12 +107,7 @@ target-plain field to e = from-either (bytes_eq field (codes "none")) (Some None
     (λ more. let d = mapped-some Some (chair_of field) to more in chair-plain field d.0 d.1) e
 
 majority-plain : (field : List ℕ) (m : Majority) → majority_of field ≡ Some m → is_one_line field ≡ true
-majority-plain field m e =
-    from-either (bytes_eq field (codes "half")) (Some Half) _ m _ (λ t same. same-word field (codes "half") t refl)
-    (λ e2. from-either (bytes_eq field (codes "70")) (Some Seventy) _ m _ (λ t same. same-word field (codes "70") t refl)
-    (λ e3. from-either (bytes_eq field (codes "85")) (Some EightyFive) _ m _ (λ t same. same-word field (codes "85") t refl)
-    (λ e4. from-either (bytes_eq field (codes "quorum")) (Some Quorum) None m _ (λ t same. same-word field (codes "quorum") t refl)
-    (λ none. cc none) e4) e3) e2) e
+majority-plain field m e = subst (λ w. is_one_line w ≡ true) (sym (majority-word m field e)) (each-majority (λ m. is_one_line (word_of_majority m)) refl m)
 
 plain-one : (a : List ℕ) → is_one_line a ≡ true → is_plain (a ∷ []) ≡ true
 plain-one a p = rw p refl
@@ -113,53 +115,63 @@ plain-one a p = rw p refl
 plain-two : (a b : List ℕ) → is_one_line a ≡ true → is_one_line b ≡ true → is_plain (a ∷ b ∷ []) ≡ true
 plain-two a b p q = rw (p, q) refl
 
-plain-three : (a b c : List ℕ) → is_one_line a ≡ true → is_one_line b ≡ true → is_one_line c ≡ true → is_plain (a ∷ b ∷ c ∷ []) ≡ true
-plain-three a b c p q r = rw (p, q, r) refl
+kind-plain : (word : List ℕ) (k : CommandKind) → kind_of_word word ≡ Some k → is_one_line word ≡ true
+kind-plain word k e = subst (λ w. is_one_line w ≡ true) (sym (kind-word word k e)) (each-kind (λ k. is_one_line (word_of_kind k)) refl k)
 
-one-plain : (word a : List ℕ) (c : Command) → command_of_one word a ≡ Some c → is_plain (word ∷ a ∷ []) ≡ true
-one-plain word a c e =
-    let chaired = λ (w : List ℕ) (f : ℕ → Command) (t : bytes_eq word w ≡ true) (p : is_one_line w ≡ true) (more : option_map f (chair_of a) ≡ Some c).
-    let d = mapped-some f (chair_of a) c more in plain-two word a (same-word word w t p) (chair-plain a d.0 d.1) in
-    let named = λ (w : List ℕ) (f : List ℕ → Command) (t : bytes_eq word w ≡ true) (p : is_one_line w ≡ true) (more : option_map f (code_of_member a) ≡ Some c).
-    let d = mapped-some f (code_of_member a) c more in plain-two word a (same-word word w t p) (member-plain a d.0 d.1) in
-    from-either (bytes_eq word (codes "open")) _ _ c _ (λ t more. chaired (codes "open") Open t refl more)
-    (λ e2. from-either (bytes_eq word (codes "close")) _ _ c _ (λ t more. chaired (codes "close") Close t refl more)
-    (λ e3. from-either (bytes_eq word (codes "suspend")) _ _ c _ (λ t more. named (codes "suspend") Suspend t refl more)
-    (λ e4. from-either (bytes_eq word (codes "restore")) _ _ c _ (λ t more. named (codes "restore") Restore t refl more)
-    (λ e5. from-either (bytes_eq word (codes "withdraw")) _ None c _ (λ t more. named (codes "withdraw") Withdraw t refl more)
-    (λ none. cc none) e5) e4) e3) e2) e
+one-part : {A : Type 0} (f : A → Parts) (read : List ℕ → Option A) (a : List ℕ) (p : Parts) → ((x : A) → read a ≡ Some x → is_one_line a ≡ true)
+    → option_map f (read a) ≡ Some p → is_plain (a ∷ []) ≡ true
+one-part f read a p plain e = let d = mapped-some f (read a) p e in plain-one a (plain d.0 d.1)
 
-two-plain : (word a b : List ℕ) (c : Command) → command_of_two word a b ≡ Some c → is_plain (word ∷ a ∷ b ∷ []) ≡ true
-two-plain word a b c e =
-    let voted = λ (w : List ℕ) (f : List ℕ → ℕ → Command) (t : bytes_eq word w ≡ true) (p : is_one_line w ≡ true) (more : pair_of f (code_of_member a) (votes_of b) ≡ Some c).
-    let d = paired-some f (code_of_member a) (votes_of b) c more in
-    plain-three word a b (same-word word w t p) (member-plain a d.0 d.2) (votes-plain b d.1 d.3) in
-    from-either (bytes_eq word (codes "move")) _ _ c _
-    (λ t more. let d = paired-some Move (code_of_member a) (target_chair b) c more in
-    plain-three word a b (same-word word (codes "move") t refl) (member-plain a d.0 d.2) (target-plain b d.1 d.3))
-    (λ e2. from-either (bytes_eq word (codes "votes")) _ _ c _ (λ t more. voted (codes "votes") SetVotes t refl more)
-    (λ e3. from-either (bytes_eq word (codes "admit")) _ None c _ (λ t more. voted (codes "admit") Admit t refl more)
-    (λ none. cc none) e3) e2) e
+two-parts : {A B : Type 0} (f : A → B → Parts) (read : List ℕ → Option A) (more : List ℕ → Option B) (a b : List ℕ) (p : Parts) → ((x : A) → read a ≡ Some x → is_one_line a ≡ true) → ((y : B) → more b ≡ Some y → is_one_line b ≡ true)
+    → pair_of f (read a) (more b) ≡ Some p → is_plain (a ∷ b ∷ []) ≡ true
+two-parts f read more a b p first second e = let d = paired-some f (read a) (more b) p e in plain-two a b (first d.0 d.2) (second d.1 d.3)
 
-reading-plain : (word a b : List ℕ) (q : Request) → reading_of (word ∷ a ∷ b ∷ []) ≡ Some q → is_plain (word ∷ a ∷ b ∷ []) ≡ true
-reading-plain word a b q e = from-either (bytes_eq word (codes "read")) _ None q _
+parts-plain : (form : Form) (fields : Row) (p : Parts) → parts_of_fields form fields ≡ Some p → is_plain fields ≡ true
+parts-plain form.Chair [] p e = cc
+parts-plain form.Chair (a ∷ []) p e = one-part Chair chair_of a p (chair-plain a) e
+parts-plain form.Chair (a ∷ b ∷ more) p e = cc
+parts-plain form.Member [] p e = cc
+parts-plain form.Member (a ∷ []) p e = one-part Member code_of_member a p (member-plain a) e
+parts-plain form.Member (a ∷ b ∷ more) p e = cc
+parts-plain form.Seat [] p e = cc
+parts-plain form.Seat (a ∷ []) p e = cc
+parts-plain form.Seat (a ∷ b ∷ []) p e = two-parts Seat code_of_member target_chair a b p (member-plain a) (target-plain b) e
+parts-plain form.Seat (a ∷ b ∷ c ∷ more) p e = cc
+parts-plain form.Votes [] p e = cc
+parts-plain form.Votes (a ∷ []) p e = cc
+parts-plain form.Votes (a ∷ b ∷ []) p e = two-parts Votes code_of_member votes_of a b p (member-plain a) (votes-plain b) e
+parts-plain form.Votes (a ∷ b ∷ c ∷ more) p e = cc
+
+command-plain : (word : List ℕ) (fields : Row) (c : Command) → command_of (word ∷ fields) ≡ Some c → is_plain (word ∷ fields) ≡ true
+command-plain word fields c e =
+    option_and_then_some (command_of_kind fields) (kind_of_word word) c e (λ k known of.
+    option_and_then_some (command_of_parts k) (parts_of_fields (form_of_kind k) fields) c of (λ p given made.
+    both-true (is_one_line word) (is_plain fields) (kind-plain word k known) (parts-plain (form_of_kind k) fields p given)))
+
+reading-plain : (word : List ℕ) (fields : Row) (q : Request) → reading_of (word ∷ fields) ≡ Some q → is_plain (word ∷ fields) ≡ true
+reading-plain word [] q e = cc
+reading-plain word (a ∷ []) q e = cc
+reading-plain word (a ∷ b ∷ []) q e = from-either (bytes_eq word (codes "read")) _ None q _
     (λ t more. let d = paired-some _ (number_of_digits a) (majority_of b) q more in
-    plain-three word a b (same-word word (codes "read") t refl) (number-plain a d.0 d.2) (majority-plain b d.1 d.3))
+    both-true (is_one_line word) _ (same-word word (codes "read") t refl) (plain-two a b (number-plain a d.0 d.2) (majority-plain b d.1 d.3)))
     (λ none. cc none) e
+reading-plain word (a ∷ b ∷ c ∷ more) q e = cc
 
-some-first : {A : Type 0} (o p : Option A) (q : A) → first_some o p ≡ Some q → (o ≡ Some q) ⊎ (p ≡ Some q)
+publish-plain : (word : List ℕ) (fields : Row) → is_publish (word ∷ fields) ≡ true → is_plain (word ∷ fields) ≡ true
+publish-plain word [] t = plain-one word (same-word word (codes "publish") t refl)
+publish-plain word (a ∷ more) t = cc
+
+some-first : {A : Type 0} (o p : Option A) (q : A) → option_or o p ≡ Some q → (o ≡ Some q) ⊎ (p ≡ Some q)
 some-first None p q e = inr e
 some-first (Some a) p q e = inl e
 
 pub request-plain : (row : Row) (q : Request) → request_of row ≡ Some q → is_plain row ≡ true
 request-plain [] q e = cc
-request-plain (w ∷ []) q e = from-either (bytes_eq w (codes "publish")) _ None q _ (λ t same. plain-one w (same-word w (codes "publish") t refl)) (λ none. cc none) e
-request-plain (w ∷ a ∷ []) q e = let d = mapped-some submission (command_of_one w a) q e in one-plain w a d.0 d.1
-request-plain (w ∷ a ∷ b ∷ []) q e = elim (some-first (reading_of (w ∷ a ∷ b ∷ [])) (option_map submission (command_of_two w a b)) q e) [
-  | inl read ↦ reading-plain w a b q read
-  | inr command ↦ let d = mapped-some submission (command_of_two w a b) q command in two-plain w a b d.0 d.1
-]
-request-plain (w ∷ a ∷ b ∷ c ∷ more) q e = cc
+request-plain (w ∷ fields) q e = from-either (is_publish (w ∷ fields)) _ _ q _ (λ t same. publish-plain w fields t)
+    (λ more. elim (some-first (reading_of (w ∷ fields)) (option_map submission (command_of (w ∷ fields))) q more) [
+      | inl read ↦ reading-plain w fields q read
+      | inr command ↦ let d = mapped-some submission (command_of (w ∷ fields)) q command in command-plain w fields d.0 d.1
+    ]) e
 
 within-some : (lim : Limits) (o : Option Request) (q : Request) → valid_or_refused (is_served lim) o ≡ Ok q → (r : Request) × (o ≡ Some r)
 within-some lim None q e = cc
@@ -191,13 +203,13 @@ from-if true x y q G f g e = f refl e
 from-if false x y q G f g e = g e
 
 -- what an opening takes: records with no line end
-pub record Takes (rows : List Row) (k : ℕ) (o : Opened) : Type 0 where
+pub record Takes (rows : List Row) (k : ℕ) (o : Preamble) : Type 0 where
   pub front : List Row
   pub split : rows ≡ front ++ o.2
   pub plain : list_all is_plain front ≡ true
   pub counted : o.1 ≡ length front + k
 
-takes-more : (r : Row) (rs : List Row) (k : ℕ) (o : Opened) → is_plain r ≡ true → Takes rs (k + 1) o → Takes (r ∷ rs) k o
+takes-more : (r : Row) (rs : List Row) (k : ℕ) (o : Preamble) → is_plain r ≡ true → Takes rs (k + 1) o → Takes (r ∷ rs) k o
 takes-more r rs k o p t = record {
   front = r ∷ t.front;
   split = ap (λ (xs : List Row). r ∷ xs) t.split;
@@ -205,17 +217,17 @@ takes-more r rs k o p t = record {
   counted = let c = t.counted in omega arith;
 }
 
-takes-mark : (members : Opening) (r : Row) (rs : List Row) (k : ℕ) (o : Opened) → is_plain r ≡ true → (whole : Result Opened Fault) → whole ≡ Ok (members, k + 1, rs) → whole ≡ Ok o → Takes (r ∷ rs) k o
+takes-mark : (members : Opening) (r : Row) (rs : List Row) (k : ℕ) (o : Preamble) → is_plain r ≡ true → (whole : Result Preamble Fault) → whole ≡ Ok (members, k + 1, rs) → whole ≡ Ok o → Takes (r ∷ rs) k o
 takes-mark members r rs k o p whole is e =
     let same : (members, k + 1, rs) ≡ o = cc in
-    subst (λ (x : Opened). Takes (r ∷ rs) k x) same record {
+    subst (λ (x : Preamble). Takes (r ∷ rs) k x) same record {
       front = r ∷ [];
       split = refl;
       plain = rw p refl;
       counted = omega arith;
     }
 
-takes-member : (members : Opening) (room k : ℕ) (r : Row) (rs : List Row) (o : Opened) → is_mark r ≡ false → opening_after members room k (r ∷ rs) ≡ Ok o
+takes-member : (members : Opening) (room k : ℕ) (r : Row) (rs : List Row) (o : Preamble) → is_mark r ≡ false → opening_after members room k (r ∷ rs) ≡ Ok o
     → ((ms : Opening) (left : ℕ) → opening_after ms left (k + 1) rs ≡ Ok o → Takes rs (k + 1) o) → Takes (r ∷ rs) k o
 takes-member members zero k r rs o mark e rest = let full = sym (opening-full members 0 k _ r rs refl mark refl) ∙ e in cc full
 takes-member members (suc left) k r rs o mark e rest =
@@ -225,7 +237,7 @@ takes-member members (suc left) k r rs o mark e rest =
           (rest (members ++ m ∷ []) left (sym (opening-member members (suc left) k _ r rs refl left mark refl m found) ∙ e))
     ] refl
 
-takes : (members : Opening) (room k : ℕ) (rows : List Row) (o : Opened) → opening_after members room k rows ≡ Ok o → Takes rows k o
+takes : (members : Opening) (room k : ℕ) (rows : List Row) (o : Preamble) → opening_after members room k rows ≡ Ok o → Takes rows k o
 takes members room k [] o e = let none = sym (opening-ends members room k [] refl) ∙ e in cc none
 takes members room k (r ∷ rs) o e =
     elim (is_mark r) as (λ b. is_mark r ≡ b → Takes (r ∷ rs) k o) [
@@ -233,12 +245,12 @@ takes members room k (r ∷ rs) o e =
       | false ↦ λ mark. takes-member members room k r rs o mark e (λ ms left. takes ms left (k + 1) rs o)
     ] refl
 
-takes-all : (rows : List Row) (o : Opened) → opened_of rows ≡ Ok o → Takes rows 1 o
+takes-all : (rows : List Row) (o : Preamble) → preamble_of rows ≡ Ok o → Takes rows 1 o
 takes-all [] o e = cc
 takes-all (r ∷ rs) o e = from-if (is_header r) _ _ (Ok o) _ (λ t next. takes-more r rs 1 o (header-plain r t) (takes [] MAX_MEMBERS 2 rs o (sym (opening-starts rs) ∙ next))) (λ none. cc none) e
 
 -- the records behind an opening
-pub left-of : (input : List ℕ) (rows : List Row) (o : Opened) → rows ≡ input_rows input → opened_of rows ≡ Ok o → IsLeft input o.1 o.2
+pub left-of : (input : List ℕ) (rows : List Row) (o : Preamble) → rows ≡ input_rows input → preamble_of rows ≡ Ok o → IsLeft input o.1 o.2
 left-of input rows o same e =
     let t = takes-all rows o e in
     record { front = t.front; split = sym same ∙ t.split; plain = t.plain; counted = t.counted }

@@ -8,7 +8,7 @@ use Rattle.council_core.specs.declared.commands.Command.TheVariants.{Open}
 use Rattle.council_core.specs.declared.refusals.Refusal.TheVariants.{BadChair, BadIndex, BadRecord, ChairNotOpen, ChairOpen, JournalFull, NoRegister, OutOfMemory}
 use Rattle.council_core.specs.declared.commands.Command.{Command}
 use Rattle.council_core.specs.declared.refusals.Refusal.{Refusal}
-use Rattle.c_values.specs.Given.{command_with, given_opening}
+use Rattle.c_values.specs.Given.{fields_with, given_opening}
 use Rattle.c_values.specs.declared.commands.BoardCommand.{BoardCommand}
 use Rattle.c_values.specs.declared.entries.BoardEntry.{BoardEntry}
 use Rattle.board_c.specs.declared.TheConstants.{DONE}
@@ -33,7 +33,7 @@ abbrev no_code : List ℕ
 no_code = 0 ∷ 0 ∷ 0 ∷ 0 ∷ []
 
 abbrev command : ℕ → ℕ → BoardCommand
-command kind chair = command_with kind no_code chair 0
+command kind chair = fields_with kind no_code chair 0
 
 -- only state 1 has a register
 pub states : (register_in (handle 0) ≡ None) × (register_in (handle 1) ≡ Some small) × (register_in (handle 2) ≡ None)
@@ -95,7 +95,7 @@ pub written : Sets {A = ℕ} {B = ℕ} (Ok 7) 0 5 7 (λ n. n ≡ 7) × (Sets {A 
 written = ((refl, refl), (λ e. omega (arith, e.0)), (λ e. omega (arith, e.1)))
 
 -- a struct of a command has 0 in the parts that the command doesn't have, and gives the command; chair 33 would be none
-pub structs : IsStructOf (Open 1) (command 0 1) × (IsStructOf (Open 1) (command_with 0 no_code 1 7) → ⊥) × (IsStructOf (Open 33) (command 0 33) → ⊥)
+pub structs : IsStructOf (Open 1) (command 0 1) × (IsStructOf (Open 1) (fields_with 0 no_code 1 7) → ⊥) × (IsStructOf (Open 33) (command 0 33) → ⊥)
 structs = ((refl, refl), (λ e. let votes : 7 ≡ 0 = ap (λ (c : BoardCommand). c.votes) e.0 in omega (arith, votes)), (λ e. cc e.1))
 
 -- a register with another accepted command, or without the command, has not accepted this one

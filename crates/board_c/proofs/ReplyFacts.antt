@@ -8,7 +8,7 @@ use Rattle.council_core.specs.declared.refusals.Refusal.{Refusal}
 use Rattle.council_core.specs.declared.refusals.Refusal.TheVariants.{BadRecord, OutOfMemory}
 use Rattle.majority_rule.specs.declared.majorities.Majority.{Majority}
 use Rattle.board_c.specs.Calls.{Answers, Sets, by_majority, command_reply, reply}
-use Rattle.c_values.specs.Counts.{majority_numbered}
+use Rattle.majority_rule.specs.Majorities.{majority_numbered}
 use Rattle.c_values.specs.Given.{given_command}
 use Rattle.board_c.specs.declared.register.handles.BoardRegister.{BoardRegister}
 use Rattle.c_values.specs.declared.commands.BoardCommand.{BoardCommand}

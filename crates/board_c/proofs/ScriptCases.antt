@@ -7,8 +7,8 @@ use Rattle.csv.specs.Machine.{next_record}
 use Rattle.csv.specs.Reading.{records_from, strip_bom}
 use Rattle.board_text.specs.Requests.{Row}
 use Rattle.board_text.specs.Scripts.{script_course}
-use Rattle.board_text.specs.Text.{started_of, members_before, fault_at, opening_of, run_limits}
-use Rattle.c_values.specs.Given.{command_with, no_code}
+use Rattle.board_text.specs.Text.{started_of, members_before, fault_at, preamble_after_header, run_limits}
+use Rattle.c_values.specs.Given.{fields_with, no_code}
 use Rattle.board_c.specs.declared.TheConstants.{DONE}
 use Rattle.board_c.specs.Contents.{end_from, items_from, items_of, members_of}
 use Rattle.board_c.specs.Items.{item_with, only_kind, with_span}
@@ -25,7 +25,7 @@ rows = (codes "open" ∷ codes "2" ∷ []) ∷ (codes "move" ∷ codes "ABC" ∷
     ∷ (codes "read" ∷ codes "3" ∷ codes "85" ∷ []) ∷ (codes "read" ∷ codes "1" ∷ codes "quorum" ∷ []) ∷ (codes "read" ∷ codes "4" ∷ codes "85" ∷ []) ∷ (codes "publish" ∷ []) ∷ []
 
 pub items : items_from (run_limits 3 10) 4 rows
-    ≡ item_with 4 (command_with 0 no_code 2 0) 0 0 ∷ item_with 5 (command_with 2 (65 ∷ 66 ∷ 67 ∷ 0 ∷ []) 0 0) 0 0
+    ≡ item_with 4 (fields_with 0 no_code 2 0) 0 0 ∷ item_with 5 (fields_with 2 (65 ∷ 66 ∷ 67 ∷ 0 ∷ []) 0 0) 0 0
     ∷ item_with 6 (only_kind 8) 0 0 ∷ item_with 7 (only_kind 9) 3 2 ∷ item_with 8 (only_kind 9) 1 3 ∷ []
 unfolding items_from
 items = refl
@@ -57,8 +57,8 @@ abbrev pub input : List ℕ
 input = codes "member,votes\nAAA,1\nscript\n\"op\"en,2\npublish"
 
 -- the fourth record, whose quotes end before its field does, is open,2
-pub quoted : items_of (run_limits 1 10) input ≡ item_with 4 (command_with 0 no_code 2 0) 0 0 ∷ item_with 5 (only_kind 8) 0 0 ∷ []
-unfolding started_of opening_of items_from records_from strip_bom next_record
+pub quoted : items_of (run_limits 1 10) input ≡ item_with 4 (fields_with 0 no_code 2 0) 0 0 ∷ item_with 5 (only_kind 8) 0 0 ∷ []
+unfolding started_of preamble_after_header items_from records_from strip_bom next_record
 quoted = refl
 
 pub quoted_members : members_of (run_limits 1 10) input ≡ (65 ∷ 65 ∷ 65 ∷ [], 1) ∷ []
@@ -140,7 +140,7 @@ not_unended h = cc
 
 -- a fault: the items before it remain
 pub before_fault : items_of (run_limits 1 10) (codes "member,votes\nscript\npublish\nopen,33\npublish") ≡ item_with 3 (only_kind 8) 0 0 ∷ []
-unfolding started_of opening_of items_from records_from strip_bom next_record
+unfolding started_of preamble_after_header items_from records_from strip_bom next_record
 before_fault = refl
 
 pub at_fault : (s : Sequential) → end_from (run_limits 1 10) 3 s ((codes "publish" ∷ []) ∷ (codes "open" ∷ codes "33" ∷ []) ∷ (codes "publish" ∷ []) ∷ []) ≡ Some (fault_at BadRecord 4)
@@ -149,7 +149,7 @@ at_fault s = refl
 
 -- a fault before the script: no items, but the members before it
 pub no_items : items_of (run_limits 1 10) (codes "member,votes\nAAA,1\nAAA,2\nscript\npublish") ≡ []
-unfolding started_of opening_of items_from records_from strip_bom next_record
+unfolding started_of preamble_after_header items_from records_from strip_bom next_record
 no_items = refl
 
 pub both_members : members_of (run_limits 1 10) (codes "member,votes\nAAA,1\nAAA,2\nscript\npublish") ≡ (65 ∷ 65 ∷ 65 ∷ [], 1) ∷ (65 ∷ 65 ∷ 65 ∷ [], 2) ∷ []

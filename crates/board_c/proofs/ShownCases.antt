@@ -9,7 +9,7 @@ use Rattle.council_core.specs.Refusals.{code_of}
 use Rattle.council_core.specs.declared.refusals.Refusal.TheVariants.{BadLimit, DuplicateMember}
 use Rattle.board_text.specs.Requests.{Row}
 use Rattle.board_runs.specs.Replays.{run_of}
-use Rattle.board_text.specs.Text.{started_of, fault_at, members_in, opening_of, run_limits}
+use Rattle.board_text.specs.Text.{started_of, fault_at, members_in, preamble_after_header, run_limits}
 use Rattle.board_text.specs.declared.bounds.Limits.{Limits}
 use Rattle.board_text.specs.declared.faults.Fault.{Fault}
 use Rattle.board_text.specs.declared.stops.Stop.TheVariants as stop
@@ -69,7 +69,7 @@ module _ (bytes : List ℕ) where
 
 -- the members with which a replay starts are those that are read
 pub members_of_a_start : (members : Opening) (items : List BoardItem) (answer place : ℕ) → IsWholeInput (run_limits 1 10) input members items answer place → members ≡ member
-unfolding started_of opening_of records_from strip_bom next_record
+unfolding started_of preamble_after_header records_from strip_bom next_record
 members_of_a_start members items answer place h = h.opening
 
 -- of an input of one byte more than is read there are no members, and of one of the most bytes those of its records
@@ -132,7 +132,7 @@ placed_items : (old new : List BoardItem) (h : ReadItems {T = ⊤} (Ok tt) input
 placed_items old new h = h.spans
 
 -- an opening is refused for its own reason, at no record
-pub openings_refused : (ChecksOpening (Err BadLimit) (Err (stop.Input (fault_at BadLimit 3))) → ⊥) × (ChecksOpening (Err BadLimit) (Err (stop.Input (fault_at DuplicateMember 0))) → ⊥)
+pub openings_refused : (ChecksOpening (Err BadLimit) (Err (stop.Fault (fault_at BadLimit 3))) → ⊥) × (ChecksOpening (Err BadLimit) (Err (stop.Fault (fault_at DuplicateMember 0))) → ⊥)
 openings_refused = (
   (λ h. let at : 3 ≡ 0 = ap (λ (f : Fault). f.place) h.2 in omega (arith, at)),
   (λ h. let same : BadLimit ≡ h.0 = cc h.1 in

@@ -10,7 +10,7 @@ use Rattle.council_core.specs.Sequential.{Sequential}
 use Rattle.council_core.specs.declared.commands.Command.{Command}
 use Rattle.council_core.specs.declared.refusals.Refusal.{Refusal}
 use Rattle.council_core.specs.declared.refusals.Refusal.TheVariants.{BadRecord, BadIndex, NoRegister, OutOfMemory}
-use Rattle.c_values.specs.Counts.{majority_numbered}
+use Rattle.majority_rule.specs.Majorities.{majority_numbered}
 use Rattle.c_values.specs.Given.{command_as, entry_as, given_command, given_opening, row_as}
 use Rattle.c_values.specs.declared.commands.BoardCommand.{BoardCommand}
 use Rattle.c_values.specs.declared.entries.BoardEntry.{BoardEntry}

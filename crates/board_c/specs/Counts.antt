@@ -5,7 +5,8 @@ use Rattle.council_core.specs.declared.limits.TheConstants.{CHAIRS}
 use Rattle.council_core.specs.declared.refusals.Refusal.{Refusal}
 use Rattle.council_core.specs.declared.refusals.Refusal.TheVariants.{BadRecord, BadSheet}
 use Rattle.council_core.specs.Refusals.{code_of}
-use Rattle.c_values.specs.Counts.{IsSheetInRange, majority_numbered}
+use Rattle.majority_rule.specs.Majorities.{majority_numbered}
+use Rattle.c_values.specs.Counts.{IsSheetInRange}
 
 -- the words of a sheet whose first chairs are open with these weights, before any command
 abbrev pub words_of_weights : List ℕ → ℕ → List ℕ

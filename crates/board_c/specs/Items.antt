@@ -3,8 +3,8 @@ use Rattle.std.specs.Prelude.{ℕ}
 use Rattle.council_core.specs.declared.calls.Order.TheVariants as order
 use Rattle.board_text.specs.declared.requests.Request.{Request}
 use Rattle.board_text.specs.declared.requests.Request.TheVariants as ask
-use Rattle.c_values.specs.Counts.{majority_number}
-use Rattle.c_values.specs.Given.{command_as, command_with, no_code}
+use Rattle.majority_rule.specs.Majorities.{number_of_majority}
+use Rattle.c_values.specs.Given.{command_as, fields_with, no_code}
 use Rattle.c_values.specs.declared.commands.BoardCommand.{BoardCommand}
 use Rattle.c_values.specs.declared.commands.TheConstants.{PUBLISH, READ}
 use Rattle.board_c.specs.declared.script.items.BoardItem.{BoardItem}
@@ -30,10 +30,10 @@ item_with k command reader majority = record {
 
 -- no command, but a kind of request
 abbrev pub only_kind : ℕ → BoardCommand
-only_kind kind = command_with kind no_code 0 0
+only_kind kind = fields_with kind no_code 0 0
 
 -- the item of the request of record number k, without its span
 abbrev pub item_as : ℕ → Request → BoardItem
 item_as k (ask.Order (order.Submit c)) = item_with k (command_as c) 0 0
 item_as k (ask.Order order.Publish) = item_with k (only_kind PUBLISH) 0 0
-item_as k (ask.Read reader m) = item_with k (only_kind READ) reader (majority_number m)
+item_as k (ask.Read reader m) = item_with k (only_kind READ) reader (number_of_majority m)

@@ -9,7 +9,7 @@ use Rattle.council_core.specs.Rolls.{sits_in, effective_votes, votes_in, chair_n
 use Rattle.council_core.specs.declared.refusals.Refusal.{Refusal}
 use Rattle.council_core.specs.declared.refusals.Refusal.TheVariants.{BadRecord, BadSheet}
 use Rattle.council_core.specs.Refusals.{code_of}
-use Rattle.c_values.specs.Counts.{majority_numbered}
+use Rattle.majority_rule.specs.Majorities.{majority_numbered}
 use Rattle.board_c.specs.declared.counts.members.BoardMember.{BoardMember}
 
 -- the standing of a member: chair 0 means no chair, and any number except 0 means suspended

@@ -36,7 +36,7 @@ pub record ReadItems {T : Type 0} (result : Result T Stop) (bytes : List ℕ) (a
 -- the end of a reading: with this fault, if any, or memory ran out
 abbrev pub EndsReading : {T : Type 0} → Result T Stop → Option Fault → Type 0
 EndsReading (Ok _) end = end ≡ None
-EndsReading (Err (stop.Input f)) end = end ≡ Some f
+EndsReading (Err (stop.Fault f)) end = end ≡ Some f
 EndsReading (Err stop.OutOfMemory) end = Unit {0}
 EndsReading (Err stop.ReadFault) end = Unit {0}
 EndsReading (Err stop.WriteFault) end = Unit {0}
@@ -44,15 +44,16 @@ EndsReading (Err stop.WriteFault) end = Unit {0}
 -- the result of checking an opening: the verdict, or memory ran out
 abbrev pub ChecksOpening : Result ⊤ Refusal → Result ⊤ Stop → Type 0
 ChecksOpening verdict (Ok _) = verdict ≡ Ok tt
-ChecksOpening verdict (Err (stop.Input f)) = (why : Refusal) × (verdict ≡ Err why) × (f ≡ fault_at why 0)
+ChecksOpening verdict (Err (stop.Fault f)) = (why : Refusal) × (verdict ≡ Err why) × (f ≡ fault_at why 0)
 ChecksOpening verdict (Err stop.OutOfMemory) = Unit {0}
 ChecksOpening verdict (Err stop.ReadFault) = ⊥
 ChecksOpening verdict (Err stop.WriteFault) = ⊥
 
--- the fault of a reading, if any
+-- the fault of a reading, if any; the reader and the writer are memory, so each other stop is out of
+-- memory
 abbrev pub end_of : Result ⊤ Stop → Option Fault
 end_of (Ok _) = None
-end_of (Err (stop.Input f)) = Some f
+end_of (Err (stop.Fault f)) = Some f
 end_of (Err stop.OutOfMemory) = Some (fault_at OutOfMemory 0)
 end_of (Err stop.ReadFault) = Some (fault_at OutOfMemory 0)
 end_of (Err stop.WriteFault) = Some (fault_at OutOfMemory 0)

@@ -1,8 +1,7 @@
 //! The counts of a board that is given by the words of its sheet, by weights, or by its members.
-ghost use Rattle.std.specs.Prelude.{◌≡◌, ◌↔◌, ◌⊎◌, None, IfOk, IfErr, IsOk};
-ghost use Rattle.council_core.specs.Refusals.{code_of};
-ghost use Rattle.council_core.specs.declared.refusals.Refusal.TheVariants.{BadRecord};
-ghost use Rattle.c_values.specs.Counts.{ShowsCounts, ShowsAllCounts};
+ghost use Rattle.std.specs.Prelude.{◌≡◌, ◌⊎◌, None, IfOk, IfErr};
+ghost use Rattle.council_core.specs.declared.refusals.Refusal.TheVariants.{BadRecord, BadSheet};
+ghost use Rattle.c_values.specs.Counts.{IsSheetInRange, ShowsCounts, ShowsAllCounts};
 ghost use Rattle.board_c.specs.Counts.{IsRefusedAs, IsRefusal, IsRefusalOfWords, words_of_weights};
 ghost use Rattle.board_c.specs.Members.{member_words, IsBoard, AreRefusedAs, IsRefusalOfMembers};
 
@@ -11,7 +10,8 @@ mod laws;
 mod members;
 
 use crate::DONE;
-use c_values::{BoardAllCounts, BoardCounts, all_counts_of_sheet, counts_by_number};
+use crate::answers::answer;
+use c_values::{BoardAllCounts, BoardCounts, all_counts_for, counts_by_number};
 use council_core::Refusal;
 use inputs::{sheet_of, words_at};
 pub use laws::members_law;
@@ -43,6 +43,7 @@ fn counts_of_weights(
     counts_of_words(&words, number, room)
 }
 
+// The counts of a board that is given by its members and a mask of open chairs.
 fn counts_of_members(
     members: &[BoardMember],
     mask: u32,
@@ -57,20 +58,13 @@ fn counts_of_members(
     counts_by_number(&sheet, number, room)
 }
 
-// Writes the counts and returns 0, or leaves them unchanged and returns the number of the refusal.
-fn answer(found: Result<BoardCounts, Refusal>, counts: &mut BoardCounts) -> u8
-    ensures done { (result ≡ DONE) ↔ IsOk found }
-    ensures written { IfOk found (λ c. counts.new ≡ c) }
-    ensures refused { IfErr found (λ why. result ≡ code_of why) }
-    ensures untouched { IfErr found (λ _. counts.new ≡ counts.old) }
+// The counts of a sheet that is given by its words, by each majority.
+fn all_counts_of_words(words: &[u64], room: &mut ListRoom) -> Result<BoardAllCounts, Refusal>
+    ensures counts { IfOk result (λ c. ShowsAllCounts words.now c) }
+    ensures refused { IfErr result (λ why. (why ≡ BadSheet) × (IsSheetInRange words.now → ⊥)) }
 {
-    match found {
-        Ok(new) => {
-            *counts = new;
-            DONE
-        }
-        Err(why) => why.code(),
-    }
+    let sheet = sheet_of(words)?;
+    Ok(all_counts_for(&sheet, room))
 }
 
 /// Counts the coalitions of a sheet that win by a majority, and the swings of its open chairs.
@@ -117,16 +111,11 @@ pub extern "C" fn board_all_counts_of_sheet(
     ensures refused { (result ≡ DONE) ⊎ IsRefusalOfWords words.now result }
     ensures untouched { (result ≡ DONE) ⊎ (counts.new ≡ counts.old) }
 {
-    let sheet = match sheet_of(words) {
-        Ok(sheet) => sheet,
-        Err(why) => return why.code(),
-    };
-    *counts = all_counts_of_sheet(&sheet, room);
-    DONE
+    answer(all_counts_of_words(words, room), counts)
 }
 
-/// Like `board_counts_of_sheet`, for a board without a register: chairs 1, 2 and so on are open, with these
-/// weights in votes. `total`, also in votes, is at least their sum and at most 2^48.
+/// Like `board_counts_of_sheet`, for a board without a register: chairs 1, 2 and so on are open,
+/// with these weights in votes. `total`, also in votes, is at least their sum and at most 2^48.
 ///
 /// # Errors
 ///
@@ -156,10 +145,10 @@ pub extern "C" fn board_counts_of_weights(
     answer(counts_of_weights(weights, total, majority, room), counts)
 }
 
-/// Like `board_counts_of_sheet`, for a board that is given by its members, in any order. Chair k is open if
-/// bit k - 1 of `open_chairs` is set or a member sits in it, suspended or not. Its weight is the
-/// votes of its members that are not suspended. The total is the votes of all members that are not
-/// suspended, in a chair or in none.
+/// Like `board_counts_of_sheet`, for a board that is given by its members, in any order. Chair k is
+/// open if bit k - 1 of `open_chairs` is set or a member sits in it, suspended or not. Its weight is
+/// the votes of its members that are not suspended. The total is the votes of all members that are
+/// not suspended, in a chair or in none.
 ///
 /// # Errors
 ///

@@ -5,6 +5,7 @@
 //! nothing checks the program that makes them.
 #![tactic(auto)]
 
+mod answers;
 mod counts;
 mod ends;
 mod limits;

@@ -1,6 +1,7 @@
 //! The register itself. A program holds a handle, two words that are 0 at first.
 //! `board_register_start` puts a register into it, and `board_register_free` takes the register
-//! out. Every other call is one of `council_core::PublishedRegister` and restates its clauses.
+//! out. Every other call is one of `council_core::PublishedRegister`, or counts the coalitions of
+//! one of its sheets, and restates those clauses.
 ghost use Rattle.std.specs.Prelude.{◌≡◌, ◌⊎◌, None, MatchOption, length};
 ghost use Rattle.council_core.specs.Ledgers.{roll_of, sheet_of};
 ghost use Rattle.council_core.specs.Published.{sequential_taken_back};
@@ -29,6 +30,20 @@ use replies::{
     write_entry, write_own_counts, write_row, write_shown_counts,
 };
 use std::alloc::Global;
+
+// The register of a handle. If the handle has none, the call returns `$none`: the number of
+// `NoRegister`, where the macro gets no other.
+macro_rules! live {
+    ($handle:ident) => {
+        live!($handle, Refusal::NoRegister.code())
+    };
+    ($handle:ident, $none:expr) => {{
+        if $handle.state() != LIVE {
+            return $none;
+        }
+        register_of($handle)
+    }};
+}
 
 /// Starts a register of these members in the handle, with an empty journal that accepts at most
 /// `journal` commands. A register that was there before is freed. The opening is published.
@@ -78,10 +93,7 @@ pub extern "C" fn board_register_apply(
     ensures accepted { (result ≡ DONE) → HasAccepted register.old register.new command.now accepted.new }
     ensures unchanged { (result ≡ DONE) ⊎ ((register.new ≡ register.old) × (accepted.new ≡ accepted.old)) }
 {
-    if register.state() != LIVE {
-        return Refusal::NoRegister.code();
-    }
-    match apply_to(register_of(register), command) {
+    match apply_to(live!(register), command) {
         Ok(number) => {
             *accepted = number;
             DONE
@@ -97,10 +109,7 @@ pub extern "C" fn board_register_check(register: &mut BoardRegister, command: &B
     ensures verdict { result ≡ reply_number (reply register.old command.now) }
     ensures unchanged { register.new ≡ register.old }
 {
-    if register.state() != LIVE {
-        return Refusal::NoRegister.code();
-    }
-    number_in(check_on(register_of(register), command))
+    number_in(check_on(live!(register), command))
 }
 
 /// Publishes all accepted commands, and sets `published` to their number.
@@ -115,10 +124,7 @@ pub extern "C" fn board_register_publish(register: &mut BoardRegister, published
     ensures register { MatchOption (register_in register.old) (register.new ≡ register.old)
         (λ s. register.new ≡ with_register register.old (all_published s)) }
 {
-    if register.state() != LIVE {
-        return Refusal::NoRegister.code();
-    }
-    *published = register_of(register).publish();
+    *published = live!(register).publish();
     DONE
 }
 
@@ -128,10 +134,7 @@ pub extern "C" fn board_register_accepted(register: &mut BoardRegister) -> u32
     ensures number { MatchOption (register_in register.old) (result ≡ 0) (λ s. result ≡ length s.ledger.journal) }
     ensures unchanged { register.new ≡ register.old }
 {
-    if register.state() != LIVE {
-        return 0;
-    }
-    register_of(register).register().accepted()
+    live!(register, 0).register().accepted()
 }
 
 /// The number of published commands, or 0 for a handle without a register.
@@ -140,10 +143,7 @@ pub extern "C" fn board_register_published(register: &mut BoardRegister) -> u32
     ensures number { MatchOption (register_in register.old) (result ≡ 0) (λ s. result ≡ s.published) }
     ensures unchanged { register.new ≡ register.old }
 {
-    if register.state() != LIVE {
-        return 0;
-    }
-    register_of(register).published()
+    live!(register, 0).published()
 }
 
 /// The number of members, or 0 for a handle without a register.
@@ -153,10 +153,7 @@ pub extern "C" fn board_register_members(register: &mut BoardRegister) -> usize
         (λ s. result ≡ length (roll_of s.ledger).members) }
     ensures unchanged { register.new ≡ register.old }
 {
-    if register.state() != LIVE {
-        return 0;
-    }
-    register_of(register).register().members()
+    live!(register, 0).register().members()
 }
 
 /// The number of members with which the register started, or 0 for a handle without a register.
@@ -166,10 +163,7 @@ pub extern "C" fn board_register_entries(register: &mut BoardRegister) -> usize
         (λ s. result ≡ length s.ledger.opening) }
     ensures unchanged { register.new ≡ register.old }
 {
-    if register.state() != LIVE {
-        return 0;
-    }
-    register_of(register).register().opening().len()
+    live!(register, 0).register().opening().len()
 }
 
 /// Writes the row of the member at this index in the order of entry, counted from 0.
@@ -187,10 +181,7 @@ pub extern "C" fn board_register_member_at(
     ensures row { Sets (at_index row_at index (live_register register.old)) result row.old row.new (λ r. row.new ≡ r) }
     ensures unchanged { register.new ≡ register.old }
 {
-    if register.state() != LIVE {
-        return Refusal::NoRegister.code();
-    }
-    write_row(register_of(register), index, row)
+    write_row(live!(register), index, row)
 }
 
 /// Writes the entry of the member at this index, counted from 0, of those with which the register
@@ -210,10 +201,7 @@ pub extern "C" fn board_register_entry_at(
         (λ e. entry.new ≡ e) }
     ensures unchanged { register.new ≡ register.old }
 {
-    if register.state() != LIVE {
-        return Refusal::NoRegister.code();
-    }
-    write_entry(register_of(register), index, entry)
+    write_entry(live!(register), index, entry)
 }
 
 /// Writes the command at this index of the journal, counted from 0, as a struct with which
@@ -233,10 +221,7 @@ pub extern "C" fn board_register_command_at(
         (λ c. IsStructOf c command.new) }
     ensures unchanged { register.new ≡ register.old }
 {
-    if register.state() != LIVE {
-        return Refusal::NoRegister.code();
-    }
-    write_command(register_of(register), index, command)
+    write_command(live!(register), index, command)
 }
 
 /// Writes the 34 words of the register's sheet, which `board_counts_of_sheet` takes.
@@ -252,10 +237,7 @@ pub extern "C" fn board_register_sheet(
     ensures sheet { Sets (live_register register.old) result words.old words.new (λ s. words.new ≡ sheet_of s.ledger) }
     ensures unchanged { register.new ≡ register.old }
 {
-    if register.state() != LIVE {
-        return Refusal::NoRegister.code();
-    }
-    *words = words_of(register_of(register));
+    *words = words_of(live!(register));
     DONE
 }
 
@@ -276,10 +258,7 @@ pub extern "C" fn board_register_counts(
         (λ s. ShowsCounts majority (sheet_of s.ledger) counts.new) }
     ensures unchanged { register.new ≡ register.old }
 {
-    if register.state() != LIVE {
-        return Refusal::NoRegister.code();
-    }
-    write_own_counts(register_of(register), majority, room, counts)
+    write_own_counts(live!(register), majority, room, counts)
 }
 
 /// Counts the coalitions of the register's sheet by each majority, as `board_all_counts_of_sheet`.
@@ -297,14 +276,12 @@ pub extern "C" fn board_register_all_counts(
         (λ s. ShowsAllCounts (sheet_of s.ledger) counts.new) }
     ensures unchanged { register.new ≡ register.old }
 {
-    if register.state() != LIVE {
-        return Refusal::NoRegister.code();
-    }
-    *counts = all_counts_of(register_of(register), room);
+    *counts = all_counts_of(live!(register), room);
     DONE
 }
 
-/// Counts the coalitions of the sheet published last, as `board_counts_of_sheet`: what a reader sees.
+/// Counts the coalitions of the sheet published last, as `board_counts_of_sheet`: what a reader
+/// sees.
 ///
 /// # Errors
 ///
@@ -320,10 +297,7 @@ pub extern "C" fn board_register_read(
         (λ s. ShowsCounts majority (published_sheet s) counts.new) }
     ensures unchanged { register.new ≡ register.old }
 {
-    if register.state() != LIVE {
-        return Refusal::NoRegister.code();
-    }
-    write_shown_counts(register_of(register), majority, room, counts)
+    write_shown_counts(live!(register), majority, room, counts)
 }
 
 /// Puts a copy of the register as it was after its first `accepted` commands into another handle,
@@ -346,10 +320,7 @@ pub extern "C" fn board_register_copy(
     ensures untouched { (result ≡ DONE) ⊎ (copy.new ≡ copy.old) }
     ensures unchanged { register.new ≡ register.old }
 {
-    if register.state() != LIVE {
-        return Refusal::NoRegister.code();
-    }
-    match copy_boxed(alloc, register_of(register), accepted) {
+    match copy_boxed(alloc, live!(register), accepted) {
         Ok(new) => {
             copy.replace(alloc, new);
             DONE
@@ -374,12 +345,8 @@ pub extern "C" fn board_register_undo(
     ensures register { Sets (live_register register.old) result register.old register.new
         (λ s. register.new ≡ with_register register.old (sequential_taken_back s accepted published)) }
 {
-    if register.state() == LIVE {
-        register_of(register).undo_to(accepted, published);
-        DONE
-    } else {
-        Refusal::NoRegister.code()
-    }
+    live!(register).undo_to(accepted, published);
+    DONE
 }
 
 /// Frees the register of the handle, if it has one. A second call does nothing.

@@ -40,7 +40,7 @@ use std::alloc::Global;
 ///
 /// The number returned is that of a fault:
 ///
-/// - A fault of the input: those of `board_runs::replay`, in the same order.
+/// - A fault of the limits or of the input: those of `board_runs::replay`, in the same order.
 /// - `WriteFault` (20): the text is longer than `out`, and `out` is full. With more room the same
 ///   call goes further. Or `malloc` returned no memory, and `out` has no room for the line of that
 ///   fault.
@@ -78,8 +78,8 @@ pub extern "C" fn board_replay(
 ///
 /// # Errors
 ///
-/// The number returned is that of a fault of the input, or `OutOfMemory` (10): the text is then a
-/// prefix of the run's lines, perhaps none, and the line of this fault.
+/// The number returned is that of a fault of the limits or of the input, or `OutOfMemory` (10): the
+/// text is then a prefix of the run's lines, perhaps none, and the line of this fault.
 #[unsafe(no_mangle)]
 pub extern "C" fn board_replay_length(
     alloc: Global,
@@ -94,16 +94,10 @@ pub extern "C" fn board_replay_length(
     measure(alloc, Kind::Replay, input, readers, journal).tell(length, place)
 }
 
-/// Traces an input: takes the two-copy machine, with one writer and `readers` readers, through its
-/// schedule, and writes the lines of the run to the start of `out`, as many bytes as fit. `written`
-/// is set to the number of bytes written; the bytes of `out` after them are unchanged.
-///
-/// The parameters, the result and `place` are those of `board_replay`, and so are their ranges. The
-/// machine takes a step only where a record of the schedule asks for it, and only an event with an
-/// output prints a line, as `board_runs::trace` says.
-///
-/// All memory that a call allocates is freed before it returns, and nothing is kept for the next
-/// call.
+/// Traces an input: like `board_replay`, with the same parameters, results and memory, but takes the
+/// two-copy machine, with one writer and `readers` readers, through its schedule. The machine takes
+/// a step only where a record of the schedule asks for it, and only an event with an output prints a
+/// line, as `board_runs::trace` says.
 ///
 /// ```rust
 /// let (mut written, mut place) = (0, 0);
@@ -114,16 +108,7 @@ pub extern "C" fn board_replay_length(
 ///
 /// # Errors
 ///
-/// The number returned is that of a fault:
-///
-/// - A fault of the input: those of `board_runs::trace`, in the same order.
-/// - `WriteFault` (20): the text is longer than `out`, and `out` is full. With more room the same
-///   call goes further. Or `malloc` returned no memory, and `out` has no room for the line of that
-///   fault.
-/// - `OutOfMemory` (10): `malloc` returned no memory. The text is a prefix of the run's lines,
-///   perhaps none, and the line of this fault.
-///
-/// `ReadFault` is never returned.
+/// Those of `board_replay`, with the faults of `board_runs::trace` as the faults of the input.
 #[unsafe(no_mangle)]
 pub extern "C" fn board_trace(
     alloc: Global,
@@ -154,8 +139,8 @@ pub extern "C" fn board_trace(
 ///
 /// # Errors
 ///
-/// The number returned is that of a fault of the input, or `OutOfMemory` (10): the text is then a
-/// prefix of the run's lines, perhaps none, and the line of this fault.
+/// The number returned is that of a fault of the limits or of the input, or `OutOfMemory` (10): the
+/// text is then a prefix of the run's lines, perhaps none, and the line of this fault.
 #[unsafe(no_mangle)]
 pub extern "C" fn board_trace_length(
     alloc: Global,

@@ -27,7 +27,7 @@ fn end_of(found: Result<(), Stop>) -> Option<Fault>
 {
     match found {
         Ok(()) => None,
-        Err(Stop::Input(fault)) => Some(fault),
+        Err(Stop::Fault(fault)) => Some(fault),
         Err(_) => Some(Fault::new(Refusal::OutOfMemory, 0)),
     }
 }
@@ -45,8 +45,8 @@ fn end_of(found: Result<(), Stop>) -> Option<Fault>
 ///
 /// # Errors
 ///
-/// The number returned is that of a fault of the input, as of `board_runs::replay`, or
-/// `OutOfMemory` (10): then a part was read, perhaps nothing.
+/// The number returned is that of a fault of the limits or of the input, as of `board_runs::replay`,
+/// or `OutOfMemory` (10): then a part was read, perhaps nothing.
 #[unsafe(no_mangle)]
 pub extern "C" fn board_script(
     alloc: Global,

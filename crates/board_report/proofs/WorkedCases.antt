@@ -11,7 +11,7 @@ use Rattle.board_text.specs.Output.{AppendsFront}
 use Rattle.board_text.specs.Text.{started_of, fault_at, stopped_run, run_limits}
 use Rattle.board_text.specs.declared.faults.Fault.{Fault}
 use Rattle.board_runs.specs.Replays.{run_of}
-use Rattle.board_serve.specs.Serving.{EndsAfter, EndsBroken, EndsInInputFault}
+use Rattle.board_serve.specs.Serving.{EndsAfter, EndsBroken, EndsBeforeThreads}
 use Rattle.board_report.proofs.WordCases.{plain, replay_asks_no_text, replay_has_no_fault}
 use Rattle.board_report.specs.declared.calls.Invocation.{Invocation}
 use Rattle.board_report.specs.declared.calls.Invocation.TheVariants.{Replay, Serve, Trace}
@@ -163,7 +163,7 @@ serve_without_a_journal bytes old new h = cc h.1.1
 same_code : {f g : Fault} → f ≡ g → f.code ≡ g.code
 same_code e = ap (λ (f : Fault). f.code) e
 
-no_header : (lines : List LineBytes) (f : Fault) → f.code ≡ 21 → EndsInInputFault (fault_at BadLimit 0) lines f ⊎ EndsBroken lines f → ⊥
+no_header : (lines : List LineBytes) (f : Fault) → f.code ≡ 21 → EndsBeforeThreads (fault_at BadLimit 0) lines f ⊎ EndsBroken lines f → ⊥
 no_header lines f header (inl (none, e)) = omega (arith, header, same_code e)
 no_header lines f header (inr (none, inl e)) = omega (arith, header, same_code e)
 no_header lines f header (inr (none, inr e)) = omega (arith, header, same_code e)

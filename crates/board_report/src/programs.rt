@@ -175,8 +175,8 @@ fn fail_for_words<E: Recorder>(err: &mut E, error: &io::Error) -> u8
     2
 }
 
-/// The program `board`: runs the call that its arguments ask for, the first of which is the program's
-/// name, on its standard streams. The exit status is:
+/// The program `board`: runs the call that its arguments ask for, the first of which is the
+/// program's name, on its standard streams. The exit status is:
 ///
 /// - 0 if the call returns Ok, and for `--help` and `--version`;
 /// - 1 if the call returns a fault, or memory runs out before it; standard error, `err`, then gets

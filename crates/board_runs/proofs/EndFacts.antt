@@ -11,7 +11,7 @@ use Rattle.council_core.specs.Refusals.{code_of}
 use Rattle.council_core.specs.declared.refusals.Refusal.{Refusal}
 use Rattle.council_core.specs.declared.refusals.Refusal.TheVariants.{BadHeader, BadLimit, BadReader, BadRecord, DuplicateMember, NoScript, TooLong, TooManyMembers}
 use Rattle.board_text.specs.Requests.{Row, request_of, is_mark, is_header}
-use Rattle.board_text.specs.Text.{Started, Opened, started_of, started_after, before_mark, in_range, is_served, opened_of, opening_of, request_within, started_with, unless_bad, valid_or_refused}
+use Rattle.board_text.specs.Text.{Started, Preamble, started_of, started_after, before_mark, in_range, is_served, preamble_of, preamble_after_header, request_within, started_with, unless_bad, valid_or_refused}
 use Rattle.board_text.specs.declared.bounds.Limits.{Limits}
 use Rattle.board_text.specs.declared.faults.Fault.{Fault}
 use Rattle.board_text.specs.Scripts.{Course, Effect, started_course, course_of_script, interpreted_course, record_course, run_in, script_course}
@@ -34,15 +34,15 @@ either : {A : Type 0} (b : Bool) (x y : Result A Fault) → ErrsByInput x → Er
 either true x y p q = p
 either false x y p q = q
 
-unless-errs : (bad : Option ℕ) (more : Result Opened Fault) → ErrsByInput more → ErrsByInput (unless_bad bad more)
+unless-errs : (bad : Option ℕ) (more : Result Preamble Fault) → ErrsByInput more → ErrsByInput (unless_bad bad more)
 unless-errs None more p = p
 unless-errs (Some number) more p = refl
 
-opening-errs : (rs : List Row) → ErrsByInput (opening_of rs)
-unfolding opening_of
+opening-errs : (rs : List Row) → ErrsByInput (preamble_after_header rs)
+unfolding preamble_after_header
 opening-errs rs = unless-errs _ _ (either (nat_lt MAX_MEMBERS (length (before_mark rs))) _ _ refl (either (list_any is_mark rs) _ _ tt refl))
 
-opened-errs : (rs : List Row) → ErrsByInput (opened_of rs)
+opened-errs : (rs : List Row) → ErrsByInput (preamble_of rs)
 opened-errs [] = refl
 opened-errs (r ∷ rs) = either (is_header r) _ _ (opening-errs rs) refl
 
@@ -59,11 +59,11 @@ refused-errs false false false = tt
 verdict-errs : (members : Opening) (limit : ℕ) → IfErr (start_verdict members limit) (λ why. IsTrue (is_of_input (code_of why)))
 verdict-errs members limit = refused-errs (limit == 0 || nat_lt MAX_COMMANDS limit) (nat_lt MAX_MEMBERS (length members)) (has_duplicate members)
 
-started-errs : (lim : Limits) (verdict : Result ⊤ Refusal) (p : Opened) → IfErr verdict (λ why. IsTrue (is_of_input (code_of why))) → ErrsByInput (started_with lim verdict p)
+started-errs : (lim : Limits) (verdict : Result ⊤ Refusal) (p : Preamble) → IfErr verdict (λ why. IsTrue (is_of_input (code_of why))) → ErrsByInput (started_with lim verdict p)
 started-errs lim (Err why) p is = is
 started-errs lim (Ok u) p is = tt
 
-begun_with-errs : (lim : Limits) (opened : Result Opened Fault) → ErrsByInput opened → ErrsByInput (started_after lim opened)
+begun_with-errs : (lim : Limits) (opened : Result Preamble Fault) → ErrsByInput opened → ErrsByInput (started_after lim opened)
 begun_with-errs lim (Err f) p = p
 begun_with-errs lim (Ok o) p = started-errs lim _ o (verdict-errs o.0 lim.journal)
 

@@ -3,7 +3,7 @@ use Rattle.std.proofs.Common.{◌≡◌, inl, inr, ℕ, List, [], ◌∷◌, ◌
 use Rattle.std.proofs.lemmas.List.{append-nil}
 use Rattle.std.specs.Io.KnownBytes.{Appends}
 use Rattle.recording_io.specs.Tapes.{ReaderRecord, OfInput}
-use Rattle.council_core.specs.declared.refusals.Refusal.TheVariants as why
+use Rattle.council_core.specs.declared.refusals.Refusal.TheVariants as refusal
 use Rattle.board_text.specs.Lines.{fault_line}
 use Rattle.board_text.specs.Text.{Run, end_lines, fault_at, output, text_of}
 use Rattle.board_text.specs.Output.{AppendsFront, AppendsLines, Ends, EndsRun, EndsStopped, IsBroken, IsPrefixOf, WritesRun, WritesUntilStop, fault_of}
@@ -14,7 +14,7 @@ use Rattle.board_text.specs.declared.stops.Stop.TheVariants as stop
 use Rattle.board_text.proofs.Face.{appends-same, front-before, front-then, line-then, text-after}
 
 -- a run cut by the writer
-cut-run : (a b : Option (List ℕ)) (run : Run) → WritesUntilStop a b stop.WriteFault run → WritesUntilFault a b (fault_at why.WriteFault 0) run
+cut-run : (a b : Option (List ℕ)) (run : Run) → WritesUntilStop a b stop.WriteFault run → WritesUntilFault a b (fault_at refusal.WriteFault 0) run
 cut-run a b run p =
     let P : List ℕ → Type 0 = λ t. IsPrefixOf p.0 t in
     let front = subst P (sym (text-after run.lines (end_lines run.end))) (front-before p.0 (text_of run.lines) (text_of (end_lines run.end)) p.1) in
@@ -40,11 +40,11 @@ stopped-run : {A : Type 0} (a b c : Option (List ℕ)) (s : Stop) (r : Result A 
 stopped-run a b c stop.OutOfMemory (Err g) run p e = broken-ends a b c _ g run (inl refl) p e
 stopped-run a b c stop.ReadFault (Err g) run p e = broken-ends a b c _ g run (inr refl) p e
 stopped-run a b c stop.WriteFault (Err g) run p e = rw (e.0, e.1) (cut-run a b run p)
-stopped-run a b c (stop.Input h) (Err g) run p e = reported-ends a b c h g run p.0 p.1 e
+stopped-run a b c (stop.Fault h) (Err g) run p e = reported-ends a b c h g run p.0 p.1 e
 stopped-run a b c stop.OutOfMemory (Ok u) run p e = absurd e
 stopped-run a b c stop.ReadFault (Ok u) run p e = absurd e
 stopped-run a b c stop.WriteFault (Ok u) run p e = absurd e
-stopped-run a b c (stop.Input h) (Ok u) run p e = absurd e
+stopped-run a b c (stop.Fault h) (Ok u) run p e = absurd e
 
 whole-run : {A : Type 0} (a b c : Option (List ℕ)) (u : A) (r : Result A Fault) (run : Run) → WritesRun a b (Ok u) run → EndsRun b c (Ok u) r → WritesOutput a c r run
 whole-run a b c u r run p e =

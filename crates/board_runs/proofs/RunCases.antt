@@ -9,7 +9,7 @@ use Rattle.majority_rule.specs.declared.majorities.Majority.TheVariants.{Half}
 use Rattle.power_index.specs.Indices.{indices_of}
 use Rattle.power_index.specs.declared.indices.Indices.{Indices}
 use Rattle.board_text.specs.Scripts.{script_course}
-use Rattle.board_text.specs.Text.{started_of, fault_at, opening_of, printed_run, run_limits, stopped_run, with_lines}
+use Rattle.board_text.specs.Text.{started_of, fault_at, preamble_after_header, printed_run, run_limits, stopped_run, with_lines}
 use Rattle.board_runs.specs.Desks.{AreCounted}
 use Rattle.board_runs.specs.Replays.{run_of}
 use Rattle.board_runs.specs.Traces.{trace_of}
@@ -21,7 +21,7 @@ script = codes "member,votes\nAAA,3\nscript\nopen,1\nopen,1\nmove,AAA,1\npublish
 replayed : run_of (run_limits 1 10) script
     ≡ with_lines (codes "accepted,1" ∷ codes "refused,1,ChairOpen" ∷ codes "accepted,2" ∷ codes "published,2" ∷ codes "reading,1,2,half,1,2,3,3,1,2" ∷ codes "chair,1,3,1,1/1,1/1,1/1,1/1" ∷ [])
     (stopped_run (fault_at BadReader 9))
-unfolding started_of opening_of script_course records_from strip_bom next_record digits
+unfolding started_of preamble_after_header script_course records_from strip_bom next_record digits
 replayed = refl
 
 -- nothing is read that isn't published
@@ -30,7 +30,7 @@ unpublished = codes "member,votes\nAAA,3\nscript\nopen,1\nread,1,half\nread"
 
 read_before_a_publication : run_of (run_limits 1 10) unpublished
     ≡ with_lines (codes "accepted,1" ∷ codes "reading,1,0,half,0,1,0,3,0,1" ∷ []) (stopped_run (fault_at BadRecord 6))
-unfolding started_of opening_of script_course records_from strip_bom next_record digits
+unfolding started_of preamble_after_header script_course records_from strip_bom next_record digits
 read_before_a_publication = refl
 
 -- a publication of 35 steps and a reading of 37; the eighth record asks for too many steps
@@ -39,7 +39,7 @@ schedule = codes "member,votes\nAAA,3\nscript\nsubmit,open,1\npublish\nwriter,35
 
 traced : trace_of (run_limits 1 10) schedule
     ≡ with_lines (codes "accepted,1" ∷ codes "began" ∷ codes "published,1" ∷ codes "sheet,1,1,0,3" ∷ []) (stopped_run (fault_at BadRecord 8))
-unfolding started_of opening_of script_course records_from strip_bom next_record digits
+unfolding started_of preamble_after_header script_course records_from strip_bom next_record digits
 traced = refl
 
 -- the machine takes an event as often as is asked for, and prints the outputs
@@ -47,7 +47,7 @@ abbrev three_steps : List ℕ
 three_steps = codes "member,votes\nAAA,3\nscript\nwriter,3\nreader,1,2\npublish"
 
 steps_taken : trace_of (run_limits 1 10) three_steps ≡ printed_run (codes "skipped" ∷ codes "skipped" ∷ codes "skipped" ∷ codes "published,0" ∷ [])
-unfolding started_of opening_of script_course records_from strip_bom next_record digits
+unfolding started_of preamble_after_header script_course records_from strip_bom next_record digits
 steps_taken = refl
 
 -- the counts kept are those of the sheet

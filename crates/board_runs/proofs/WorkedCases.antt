@@ -8,7 +8,7 @@ use Rattle.council_core.specs.declared.refusals.Refusal.TheVariants.{BadRecord, 
 use Rattle.board_text.specs.Lines.{LineBytes, fault_line}
 use Rattle.board_text.specs.Output.{IsBroken}
 use Rattle.board_text.specs.Scripts.{script_course}
-use Rattle.board_text.specs.Text.{Run, started_of, fault_at, opening_of, printed_run, run_limits, stopped_run, text_of}
+use Rattle.board_text.specs.Text.{Run, started_of, fault_at, preamble_after_header, printed_run, run_limits, stopped_run, text_of}
 use Rattle.board_text.specs.declared.faults.Fault.{Fault}
 use Rattle.board_runs.specs.Ended.{WritesSomeLines, WritesSomeBytes, WritesAllLines, IsBrokenOff, IsOutputOf, WritesOutput}
 use Rattle.board_runs.specs.Replays.{run_of}
@@ -139,10 +139,10 @@ schedule = codes "member,votes\nAAA,1\nscript\nwriter,1"
 
 -- the fourth record is a step of the two-copy machine
 pub of_the_machine : trace_of (run_limits 1 10) schedule ≡ printed_run (codes "skipped" ∷ [])
-unfolding started_of opening_of script_course records_from strip_bom next_record
+unfolding started_of preamble_after_header script_course records_from strip_bom next_record
 of_the_machine = refl
 
 -- and nothing that a replay carries out
 pub of_the_register : run_of (run_limits 1 10) schedule ≡ stopped_run (fault_at BadRecord 4)
-unfolding started_of opening_of script_course records_from strip_bom next_record
+unfolding started_of preamble_after_header script_course records_from strip_bom next_record
 of_the_register = refl

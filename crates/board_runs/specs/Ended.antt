@@ -2,7 +2,7 @@
 use Rattle.std.specs.Prelude.{◌≡◌, ℕ, ◌⊎◌, List, [], ◌∷◌, ◌++◌, Option}
 use Rattle.std.specs.Prelude.{Some, None, Result, Ok, Err}
 use Rattle.std.specs.Io.KnownBytes.{Appends}
-use Rattle.council_core.specs.declared.refusals.Refusal.TheVariants as why
+use Rattle.council_core.specs.declared.refusals.Refusal.TheVariants as refusal
 use Rattle.board_text.specs.Lines.{LineBytes, fault_line}
 use Rattle.board_text.specs.Text.{Run, fault_at, output, text_of}
 use Rattle.board_text.specs.declared.faults.Fault.{Fault}
@@ -24,10 +24,10 @@ WritesSomeLines old new f run = IsBroken f × ((text : List ℕ) × IsBrokenOff 
 
 -- after a failed write, a run has written a prefix, in bytes, of the text that it would have written
 abbrev pub WritesSomeBytes : Option (List ℕ) → Option (List ℕ) → Fault → Run → Type 0
-WritesSomeBytes old new f run = (f ≡ fault_at why.WriteFault 0)
+WritesSomeBytes old new f run = (f ≡ fault_at refusal.WriteFault 0)
     × ((text : List ℕ) × IsOutputOf run text × AppendsFront old new text)
 
--- at a fault of the input, a run has written its whole text, with the line of that fault
+-- at a fault of its own, a run has written its whole text, with the line of that fault
 abbrev pub WritesAllLines : Option (List ℕ) → Option (List ℕ) → Fault → Run → Type 0
 WritesAllLines old new f run = (run.end ≡ Some f) × Appends old new (output run)
 

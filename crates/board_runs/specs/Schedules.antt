@@ -34,7 +34,8 @@ steps_of_reader reader count = (event.Reader reader, count)
 
 -- `submit` followed by the fields of a command record
 abbrev pub submission_of : List ℕ → Row → Option Events
-submission_of word fields = if bytes_eq word (codes "submit") then option_map one_submission (command_of fields) else None
+submission_of word fields =
+    if bytes_eq word (codes "submit") then option_map one_submission (command_of fields) else None
 
 -- the events of a record in a schedule, if it is well formed
 abbrev pub events_of : Row → Option Events

@@ -45,7 +45,7 @@ impl Desk {
         })
     }
 
-    // Carries out an order. The indices kept are for a reading that follows a reading.
+    // Carries out an order, and forgets the indices kept, even if the order changes no sheet.
     pub(crate) fn answer(&mut self, order: Order) -> Result<Answer, Stop>
         ensures replied { IfOk result (λ a. answered a ≡ (response_to self.old (ordered order)).1) }
         ensures after { IfOk result (λ a. self.new ≡ (response_to self.old (ordered order)).0) }

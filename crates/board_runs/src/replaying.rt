@@ -1,11 +1,11 @@
 //! Replays an input on the register.
-ghost use Rattle.std.specs.Prelude.{◌≡◌, Some, map, false, OnOk};
+ghost use Rattle.std.specs.Prelude.{◌≡◌, Some, map, false, IfErr, OnOk};
 ghost use Rattle.council_core.specs.Sequential.{response_to, published_sheet};
 ghost use Rattle.board_text.specs.Lines.{chair_line, reading_lines, reply_lines};
 ghost use Rattle.board_text.specs.Streams.{IsOfDevice, RunsWithin, WritesWithin, most_reads};
-ghost use Rattle.board_text.specs.Output.{IsBadLimit, WritesRun};
+ghost use Rattle.board_text.specs.Output.{IsBadLimit, IsMemoryOrWrite, WritesRun};
 ghost use Rattle.board_runs.specs.Ended.{WritesOutput};
-ghost use Rattle.board_text.specs.Sinks.{GoesOn};
+ghost use Rattle.board_text.specs.OutputStates.{IsSameOutput};
 ghost use Rattle.board_text.specs.Requests.{call_of};
 ghost use Rattle.board_text.specs.Text.{in_range, printed_run, request_within};
 ghost use Rattle.recording_io.specs.Tapes.{IsSameWriter, OfInput};
@@ -27,8 +27,9 @@ use std::io::Read;
 
 // Writes the lines of these chairs.
 fn write_chairs<W: Recorder>(rows: &[ChairPower], out: &mut Output<'_, W>) -> Result<(), Stop>
-    ensures wrote { WritesRun out.old.held out.new.held result (printed_run (map chair_line rows.now)) }
-    ensures continues { GoesOn out.old out.new }
+    ensures wrote { WritesRun out.old.contents out.new.contents result (printed_run (map chair_line rows.now)) }
+    ensures causes { IfErr result IsMemoryOrWrite }
+    ensures same_output { IsSameOutput out.old out.new }
 {
     for row in rows {
         out.write_line(line_of_chair(row))?;
@@ -43,10 +44,11 @@ fn write_reading<W: Recorder>(
     majority: Majority,
     out: &mut Output<'_, W>,
 ) -> Result<(), Stop>
-    ensures wrote { WritesRun out.old.held out.new.held result
+    ensures wrote { WritesRun out.old.contents out.new.contents result
         (printed_run (reading_lines reader majority (published_sheet desk.old))) }
     ensures state { desk.new ≡ desk.old }
-    ensures continues { GoesOn out.old out.new }
+    ensures causes { IfErr result IsMemoryOrWrite }
+    ensures same_output { IsSameOutput out.old out.new }
 {
     let indices = desk.indices(majority);
     out.write_line(line_of_reading(reader, &indices))?;
@@ -61,10 +63,11 @@ fn replay_request<W: Recorder>(
     request: Request,
     out: &mut Output<'_, W>,
 ) -> Result<(), Stop>
-    ensures wrote { WritesRun out.old.held out.new.held result
+    ensures wrote { WritesRun out.old.contents out.new.contents result
         (printed_run (reply_lines request (response_to desk.old (call_of request)).1)) }
     ensures state { OnOk result (desk.new ≡ (response_to desk.old (call_of request)).0) }
-    ensures continues { GoesOn out.old out.new }
+    ensures causes { IfErr result IsMemoryOrWrite }
+    ensures same_output { IsSameOutput out.old out.new }
 {
     match request {
         Request::Order(order) => {

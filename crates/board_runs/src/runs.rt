@@ -1,4 +1,4 @@
-//! The frame of a run.
+//! A whole run: its lines, and the line of its fault.
 ghost use Rattle.std.specs.Prelude.{◌≡◌, Some, false};
 ghost use Rattle.recording_io.specs.Tapes.{IsSameWriter, OfInput};
 ghost use Rattle.board_text.specs.Streams.{IsOfDevice, RunsWithin, WritesWithin, most_reads};

@@ -1,11 +1,11 @@
 //! Runs the two-copy machine on a schedule.
-ghost use Rattle.std.specs.Prelude.{◌≡◌, Some, false, replicate, OnOk};
+ghost use Rattle.std.specs.Prelude.{◌≡◌, Some, false, replicate, IfErr, OnOk};
 ghost use Rattle.two_copy_steps.specs.Transitions.{state_after_events, transition};
 ghost use Rattle.board_runs.specs.Notes.{note_lines};
 ghost use Rattle.board_text.specs.Streams.{IsOfDevice, RunsWithin, WritesWithin, most_reads};
-ghost use Rattle.board_text.specs.Output.{IsBadLimit, WritesRun};
+ghost use Rattle.board_text.specs.Output.{IsBadLimit, IsMemoryOrWrite, WritesRun};
 ghost use Rattle.board_runs.specs.Ended.{WritesOutput};
-ghost use Rattle.board_text.specs.Sinks.{GoesOn};
+ghost use Rattle.board_text.specs.OutputStates.{IsSameOutput};
 ghost use Rattle.board_text.specs.Text.{in_range, printed_run};
 ghost use Rattle.recording_io.specs.Tapes.{IsSameWriter, OfInput};
 ghost use Rattle.board_runs.specs.Schedules.{events_within};
@@ -25,8 +25,9 @@ use two_copy_steps::{Event, Machine, Note};
 
 // Writes the line of an output of the machine, if it has one.
 fn write_note<W: Recorder>(note: Note, out: &mut Output<'_, W>) -> Result<(), Stop>
-    ensures wrote { WritesRun out.old.held out.new.held result (printed_run (note_lines note)) }
-    ensures continues { GoesOn out.old out.new }
+    ensures wrote { WritesRun out.old.contents out.new.contents result (printed_run (note_lines note)) }
+    ensures causes { IfErr result IsMemoryOrWrite }
+    ensures same_output { IsSameOutput out.old out.new }
 {
     match line_of_note(note) {
         Some(line) => out.write_line(line),
@@ -40,10 +41,11 @@ fn carry_out_event<W: Recorder>(
     event: Event,
     out: &mut Output<'_, W>,
 ) -> Result<(), Stop>
-    ensures wrote { WritesRun out.old.held out.new.held result
+    ensures wrote { WritesRun out.old.contents out.new.contents result
         (printed_run (note_lines (transition machine.old event).1)) }
     ensures state { OnOk result (machine.new ≡ (transition machine.old event).0) }
-    ensures continues { GoesOn out.old out.new }
+    ensures causes { IfErr result IsMemoryOrWrite }
+    ensures same_output { IsSameOutput out.old out.new }
 {
     write_note(machine.step(event)?, out)
 }
@@ -55,10 +57,11 @@ fn carry_out_events<W: Recorder>(
     count: u32,
     out: &mut Output<'_, W>,
 ) -> Result<(), Stop>
-    ensures wrote { WritesRun out.old.held out.new.held result
+    ensures wrote { WritesRun out.old.contents out.new.contents result
         (printed_run (output_lines machine.old (replicate count event.now))) }
     ensures state { OnOk result (machine.new ≡ state_after_events machine.old (replicate count event.now)) }
-    ensures continues { GoesOn out.old out.new }
+    ensures causes { IfErr result IsMemoryOrWrite }
+    ensures same_output { IsSameOutput out.old out.new }
 {
     for _turn in 0..count {
         carry_out_event(machine, *event, out)?;
@@ -66,7 +69,8 @@ fn carry_out_events<W: Recorder>(
     Ok(())
 }
 
-// The machine of a schedule.
+// The machine of a schedule, as a type of this crate, since a crate can't implement another crate's
+// trait for another crate's `Machine`.
 #[derive(Drop)]
 struct Scheduled {
     machine: Machine,

@@ -1,6 +1,5 @@
 mod Replies
 pub mod PlanFacts
-pub mod CutFacts
 pub mod WorkFacts
 pub mod OutcomeFacts
 pub mod AuditFacts

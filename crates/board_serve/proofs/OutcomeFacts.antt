@@ -3,16 +3,15 @@ use Rattle.std.proofs.Common.{◌≡◌, ℕ, List, [], ◌∷◌, length, map, 
 use Rattle.std.proofs.lemmas.List.Elements.{All-cons, All-nil}
 use Rattle.council_core.specs.Ledgers.{Ledger}
 use Rattle.council_core.specs.Rolls.{IsLegal, Opening}
-use Rattle.council_core.specs.declared.commands.Command.{Command}
-use Rattle.council_core.specs.Sequential.{AreCuts, Call, Sequential, answered, ordered, replies_of, state_after}
+use Rattle.council_core.specs.Sequential.{Call, Sequential, answered, ordered, replies_of, state_after}
 use Rattle.two_copy_steps.specs.Lawful.{last_front}
-use Rattle.board_share.specs.Openings.{share_start, new_publisher, new_readers}
-use Rattle.board_share.specs.Readers.{IsLegalSheet, ReaderSeen, new_reader}
-use Rattle.board_share.specs.Writers.{Publisher}
+use Rattle.board_share.specs.Openings.{share_start, new_writer, new_readers}
+use Rattle.board_share.specs.Readers.{IsLegalSheet, ReaderState, new_reader}
+use Rattle.board_share.specs.Writers.{WriterState}
 use Rattle.board_text.specs.Text.{unpublished_register}
 use Rattle.council_core.specs.declared.calls.Answer.{Answer}
 use Rattle.board_text.specs.declared.stops.Stop.{Stop}
-use Rattle.board_serve.specs.Outcomes.{IsBrought, IsOutcome, IsServed, calls_of, reported_by}
+use Rattle.board_serve.specs.Outcomes.{IsCollected, IsOutcome, calls_of, reported_by}
 use Rattle.board_serve.specs.Plans.{Planned, plan_over, records_of}
 use Rattle.board_serve.specs.Work.{AreDone, AreRead, HasAsked, HasWritten, IsRising, cuts_of, register_of}
 use Rattle.board_serve.specs.declared.plan.Records.{Records}
@@ -20,11 +19,10 @@ use Rattle.board_serve.specs.declared.reader_work.ReaderWork.{ReaderWork}
 use Rattle.board_serve.specs.declared.serving.Served.{Served}
 use Rattle.board_serve.specs.declared.threads.AllWork.{AllWork}
 use Rattle.board_serve.specs.declared.writer_work.WriterWork.{WriterWork}
-use Rattle.board_serve.proofs.CutFacts.{cuts-in_order}
 use Rattle.board_serve.proofs.WorkFacts.{opening-kept}
 
 -- a new writer of a register with no command is the register with none published
-new-register : (writer : Publisher) (ledger : Ledger) → writer ≡ new_publisher writer.table ledger 2 → ledger.journal ≡ [] → register_of writer ≡ unpublished_register ledger
+new-register : (writer : WriterState) (ledger : Ledger) → writer ≡ new_writer writer.table ledger 2 → ledger.journal ≡ [] → register_of writer ≡ unpublished_register ledger
 new-register writer ledger new none = ap register_of new ∙ ap (λ (n : ℕ). let s : Sequential = record { ledger = ledger; published = n } in s) (ap length none)
 
 -- all threads returned their work, done
@@ -36,7 +34,7 @@ all-done work writer first second (Ok d) written one two w a b =
     record { written = subst (HasWritten work.writer) w written; first = subst (HasAsked work.first) a one; second = subst (HasAsked work.second) b two }
 
 -- the reader is of this opening, and has read nothing
-abbrev pub IsNew : Opening → ReaderSeen → Type 0
+abbrev pub IsNew : Opening → ReaderState → Type 0
 IsNew opening reader = (reader.opening ≡ opening) × (reader.readings ≡ [])
 
 -- a new writer and new readers have the plan's records
@@ -48,14 +46,14 @@ pub record IsSeated (p : Planned) (work : AllWork) : Type 0 where
   pub asked : p.records.asked ≡ work.first.asked.items ∷ work.second.asked.items ∷ []
 
 -- the first two of the new readers of a board
-new-pair : (register : Ledger) (writer : Publisher) (a b : ReaderSeen) → (a ∷ b ∷ []) ≡ new_readers writer.table (share_start register 2) 2 → IsNew register.opening a × IsNew register.opening b
+new-pair : (register : Ledger) (writer : WriterState) (a b : ReaderState) → (a ∷ b ∷ []) ≡ new_readers writer.table (share_start register 2) 2 → IsNew register.opening a × IsNew register.opening b
 new-pair register writer a b same =
     let first : a ≡ new_reader writer.table (share_start register 2) 0 = cc in
     let second : b ≡ new_reader writer.table (share_start register 2) 1 = cc in
-    ((ap (λ (r : ReaderSeen). r.opening) first, ap (λ (r : ReaderSeen). r.readings) first), (ap (λ (r : ReaderSeen). r.opening) second, ap (λ (r : ReaderSeen). r.readings) second))
+    ((ap (λ (r : ReaderState). r.opening) first, ap (λ (r : ReaderState). r.readings) first), (ap (λ (r : ReaderState). r.opening) second, ap (λ (r : ReaderState). r.readings) second))
 
 -- what the start of a board gave to the threads
-pub seated : (register : Ledger) (records : Records) (work : AllWork) → register.journal ≡ [] → work.writer.writer ≡ new_publisher work.writer.writer.table register 2 → work.writer.orders ≡ records.orders
+pub seated : (register : Ledger) (records : Records) (work : AllWork) → register.journal ≡ [] → work.writer.writer ≡ new_writer work.writer.writer.table register 2 → work.writer.orders ≡ records.orders
     → (work.first.analyst.reader ∷ work.second.analyst.reader ∷ []) ≡ new_readers work.writer.writer.table (share_start register 2) 2
     → (work.first.asked ∷ work.second.asked ∷ []) ≡ records.asked → IsSeated (plan_over register (records_of records)) work
 seated register records work none writer orders readers asked =
@@ -77,7 +75,7 @@ rising-of opening work done new read = subst (λ (l : List (List ℕ)). IsRising
 two-of : {A : Type 0} (P : A → Type 0) (x y : A) → P x → P y → All P (x ∷ y ∷ [])
 two-of P x y p q = All-cons P x (y ∷ []) p (All-cons P y [] q (All-nil P))
 
-pub outcome-of : (p : Planned) (work done : AllWork) (answers : List Answer) (s : Served) → IsSeated p work → AreDone work done → IsBrought done answers s → IsOutcome p answers s
+pub outcome-of : (p : Planned) (work done : AllWork) (answers : List Answer) (s : Served) → IsSeated p work → AreDone work done → IsCollected done answers s → IsOutcome p answers s
 outcome-of p work done answers s seated ran b =
     let calls : List Call = map ordered work.writer.orders.items in
     let written = ran.written in
@@ -103,11 +101,3 @@ outcome-of p work done answers s seated ran b =
         winning = b.winning ∙ (rw (one.winning, two.winning, seated.asked, b.readings) refl);
       };
     }
-
--- what the publications answered are cuts of the journal, with 0 before them
-pub served-cuts : (p : Planned) (s : Served) → IsServed p s → AreCuts s.journal.items (0 ∷ s.cuts.items)
-served-cuts p s served =
-    let reported : List ℕ = cuts_of (reported_by p) in
-    let P : List Command → Type 0 = λ journal. AreCuts journal (0 ∷ reported) in
-    let Q : List ℕ → Type 0 = λ cuts. AreCuts s.journal.items (0 ∷ cuts) in
-    subst Q (sym served.cuts) (subst P (sym served.journal) (cuts-in_order p.start (calls_of p)))

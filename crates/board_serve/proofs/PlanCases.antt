@@ -11,7 +11,7 @@ use Rattle.council_core.specs.Rolls.{IsLegal}
 use Rattle.board_serve.proofs.Replies.{accepted, published}
 use Rattle.majority_rule.specs.declared.majorities.Majority.TheVariants.{Half, Seventy, Quorum}
 use Rattle.board_text.specs.Scripts.{script_course}
-use Rattle.board_text.specs.Text.{started_of, fault_at, ledger_at_start, opening_of, printed_run, run_limits, stopped_run}
+use Rattle.board_text.specs.Text.{started_of, fault_at, ledger_at_start, preamble_after_header, printed_run, run_limits, stopped_run}
 use Rattle.board_text.specs.Lines.{LineBytes, audit_line}
 use Rattle.board_text.specs.declared.faults.Fault.{Fault}
 use Rattle.board_text.specs.declared.stops.Stop.TheVariants as stop
@@ -19,7 +19,7 @@ use Rattle.std.proofs.lemmas.List.{length-append}
 use Rattle.board_text.specs.declared.requests.Request.TheVariants as ask
 use Rattle.board_serve.specs.Outcomes.{IsServed, ServedLegalRecords, sheets_of}
 use Rattle.board_serve.specs.Plans.{Planned, ThreadRecords, add_at, no_records, plan_of, plan_over, with_request}
-use Rattle.board_serve.specs.Serving.{Differs, EndsAfter, EndsBroken, EndsInInputFault, WritesServeRun, WritesAllOfServe, WritesServeUntilStop, count_lines, lines_of_work, work_lines}
+use Rattle.board_serve.specs.Serving.{Differs, EndsAfter, EndsBroken, EndsBeforeThreads, WritesServeRun, WritesAllOfServe, WritesServeUntilStop, count_lines, lines_of_work, work_lines}
 use Rattle.board_serve.specs.declared.serving.Served.{Served}
 use Rattle.board_serve.proofs.WorkedCases.{one_reading}
 
@@ -39,15 +39,15 @@ abbrev start : List ℕ
 start = codes "member,votes\nAAA,3\nscript\nopen,1\nread,2,half\npublish\n"
 
 planned : plan_of 9 start ≡ Ok (plan_over (ledger_at_start (run_limits 2 9) ((65 ∷ 65 ∷ 65 ∷ [], 3) ∷ [])) (record { orders = order.Submit (Open 1) ∷ order.Publish ∷ []; asked = [] ∷ (Half ∷ []) ∷ [] }))
-unfolding started_of opening_of script_course records_from strip_bom next_record
+unfolding started_of preamble_after_header script_course records_from strip_bom next_record
 planned = refl
 
 third_reader : plan_of 9 (start ++ codes "read,3,half\nread") ≡ Err (fault_at BadReader 7)
-unfolding started_of opening_of script_course records_from strip_bom next_record
+unfolding started_of preamble_after_header script_course records_from strip_bom next_record
 third_reader = refl
 
 no_record : plan_of 9 (start ++ codes "read,3\nread") ≡ Err (fault_at BadRecord 7)
-unfolding started_of opening_of script_course records_from strip_bom next_record
+unfolding started_of preamble_after_header script_course records_from strip_bom next_record
 no_record = refl
 
 -- readers are numbered from 1, and come after the writer's replies
@@ -89,13 +89,13 @@ byte_after_a_failure ([], whole, new) = let e = new in cc e
 byte_after_a_failure (byte ∷ front, whole, new) = let e = whole.1 in cc e
 
 -- an input with a fault stops no run by another
-stopped_by_another : WritesServeRun (Some []) (Some []) (Err (stop.Input (fault_at BadHeader 0))) (Err bad) → ⊥
+stopped_by_another : WritesServeRun (Some []) (Some []) (Err (stop.Fault (fault_at BadHeader 0))) (Err bad) → ⊥
 stopped_by_another (run, is, stops) = by_end run.lines run.end is stops.0
   where
     code : {f g : Fault} → f ≡ g → f.code ≡ g.code
     code e = ap (λ (f : Fault). f.code) e
 
-    other : (lines : List LineBytes) (f : Fault) → f.code ≡ 21 → EndsInInputFault bad lines f ⊎ EndsBroken lines f → ⊥
+    other : (lines : List LineBytes) (f : Fault) → f.code ≡ 21 → EndsBeforeThreads bad lines f ⊎ EndsBroken lines f → ⊥
     other lines f header (inl (none, e)) = omega (arith, header, code e)
     other lines f header (inr (none, inl e)) = omega (arith, header, code e)
     other lines f header (inr (none, inr e)) = omega (arith, header, code e)

@@ -4,7 +4,7 @@ use Rattle.std.proofs.KnownBytes.{Appends-nil, Appends-trans}
 use Rattle.std.proofs.lemmas.List.{append-nil}
 use Rattle.std.specs.Io.KnownBytes.{Appends}
 use Rattle.council_core.specs.Sequential.{Reply, answered}
-use Rattle.council_core.specs.declared.refusals.Refusal.TheVariants as why
+use Rattle.council_core.specs.declared.refusals.Refusal.TheVariants as refusal
 use Rattle.board_text.specs.Lines.{LineBytes, audit_line, fault_line, reply_line}
 use Rattle.board_text.specs.Output.{AppendsFront, AppendsLines, Ends, EndsRun, EndsStopped, IsBroken, IsPrefixOf, Writes, WritesRun, WritesUntilStop, fault_of}
 use Rattle.board_text.specs.Text.{Run, end_lines, fault_at, line_text, output, printed_run, stopped_run, text_of, with_lines}
@@ -65,7 +65,7 @@ module _ (answers : List Answer) (counts : List ℕ) (legal : Bool) where
   audit-then a b c z u v r p q s = as-parts a z r (writes-after a b z (map answer_line answers) r counted p.1 (writes-after b c z (count_lines 1 counts) r (audited_run legal) q.1 s))
 
 -- the result of the audit: a mismatch, or its line
-pub mismatch-plays : (a : Option (List ℕ)) (legal : Bool) (e : Stop) → legal ≡ false → e ≡ stop.Input (fault_at why.Mismatch 0) → WritesUntilStop a a e (audited_run legal)
+pub mismatch-plays : (a : Option (List ℕ)) (legal : Bool) (e : Stop) → legal ≡ false → e ≡ stop.Fault (fault_at refusal.Mismatch 0) → WritesUntilStop a a e (audited_run legal)
 mismatch-plays a legal e broken same = rw (broken, same) (refl, Appends-nil a)
 
 pub audit-plays : (a b : Option (List ℕ)) (legal : Bool) (r : Result (Unit {0}) Stop) (line : LineBytes) → legal ≡ true → line ≡ audit_line → Writes a b r (line_text line) → WritesRun a b r (audited_run legal)
@@ -97,8 +97,8 @@ fails-serve a b stop.OutOfMemory d course same none p = rw same (no-lines-before
 fails-serve a b stop.ReadFault d course same none p = rw same (no-lines-before a b _ (run_in course) course.end (inr refl) none p)
 fails-serve a b stop.WriteFault d course same none p =
     let front : p.0 ≡ [] = front-of-none p.0 p.1.0 (sym (ap text_of none) ∙ p.1.1) in
-    rw same (stopped_run (fault_at why.OutOfMemory 0), broken-run course.end _ (inl refl), ([], front-none _, appends-same a b _ _ front p.2))
-fails-serve a b (stop.Input f) d course same none p =
+    rw same (stopped_run (fault_at refusal.OutOfMemory 0), broken-run course.end _ (inl refl), ([], front-none _, appends-same a b _ _ front p.2))
+fails-serve a b (stop.Fault f) d course same none p =
     rw (same, is-fault course.end f p.0) (stopped_run f, inl (refl, refl), (refl, appends-same a b _ _ (ap text_of none) p.1))
 
 -- nothing was written before
@@ -115,19 +115,19 @@ pub held-serve : (a : Option (List ℕ)) (e d : Stop) (p : Planned) → d ≡ e 
 held-serve a e d p same stops = rw same (by-held (all-held p.start p.records.orders e stops))
   where
     by-held : IsHeldUp e → WritesServeRun a a (Err e) (Ok p)
-    by-held (inl memory) = rw memory (stopped_run (fault_at why.OutOfMemory 0), inl (refl, inl refl), (refl, Appends-nil a))
+    by-held (inl memory) = rw memory (stopped_run (fault_at refusal.OutOfMemory 0), inl (refl, inl refl), (refl, Appends-nil a))
     by-held (inr closed) =
-        let by : StopsAll p.start p.records.orders (stop.Input (fault_at why.GateClosed 0)) = subst (StopsAll p.start p.records.orders) closed stops in
-        rw closed (stopped_run (fault_at why.GateClosed 0), inr (inl (refl, (_, by, refl))), (refl, Appends-nil a))
+        let by : StopsAll p.start p.records.orders (stop.Fault (fault_at refusal.GateClosed 0)) = subst (StopsAll p.start p.records.orders) closed stops in
+        rw closed (stopped_run (fault_at refusal.GateClosed 0), inr (inl (refl, (_, by, refl))), (refl, Appends-nil a))
 
 -- the fault of what stopped the threads
-pub stopped-fault : (p : Planned) (front : List LineBytes) (f : Fault) → EndsHeldUp p front f → (f ≡ fault_at why.OutOfMemory 0) ⊎ (f ≡ fault_at why.GateClosed 0)
+pub stopped-fault : (p : Planned) (front : List LineBytes) (f : Fault) → EndsHeldUp p front f → (f ≡ fault_at refusal.OutOfMemory 0) ⊎ (f ≡ fault_at refusal.GateClosed 0)
 stopped-fault p front f (none, (e, stops, is)) = by-held (all-held p.start p.records.orders e stops)
   where
     same : {g : Fault} → fault_of e ≡ Some g → f ≡ g
     same told = let x : Some f ≡ Some _ = sym is ∙ told in cc x
 
-    by-held : IsHeldUp e → (f ≡ fault_at why.OutOfMemory 0) ⊎ (f ≡ fault_at why.GateClosed 0)
+    by-held : IsHeldUp e → (f ≡ fault_at refusal.OutOfMemory 0) ⊎ (f ≡ fault_at refusal.GateClosed 0)
     by-held (inl memory) = inl (same (ap fault_of memory))
     by-held (inr closed) = inr (same (ap fault_of closed))
 
@@ -153,7 +153,7 @@ whole a b false u p s served records t = cc t.0
 -- the report was stopped, or found a mismatch
 report-serve : (a b : Option (List ℕ)) (legal : Bool) (e : Stop) (p : Planned) → IsReportStop e → (legal ≡ false → Differs p) → WritesUntilStop a b e (done_run p legal) → WritesServeRun a b (Err e) (Ok p)
 report-serve a b legal stop.WriteFault p causes differs t = (done_run p legal, is-run p legal differs, cut-output a b (done_run p legal) t)
-report-serve a b legal (stop.Input f) p causes differs t = (done_run p legal, is-run p legal differs, t)
+report-serve a b legal (stop.Fault f) p causes differs t = (done_run p legal, is-run p legal differs, t)
 report-serve a b legal stop.OutOfMemory p (inl e) differs t = cc e
 report-serve a b legal stop.OutOfMemory p (inr e) differs t = cc e
 report-serve a b legal stop.ReadFault p (inl e) differs t = cc e

@@ -7,13 +7,13 @@ use Rattle.council_core.specs.declared.calls.Order.TheVariants as order
 use Rattle.board_serve.proofs.Replies.{published}
 use Rattle.majority_rule.specs.declared.majorities.Majority.TheVariants.{Half, Seventy}
 use Rattle.two_copy_steps.specs.Lawful.{last_front}
-use Rattle.board_share.specs.Analysts.{AnalystSeen}
+use Rattle.board_share.specs.Analysts.{AnalystState}
 use Rattle.two_copy_steps.specs.Stages.{reading_steps}
 use Rattle.two_copy_steps.specs.declared.events.Event.TheVariants.{Reader}
 use Rattle.board_share.specs.Histories.{Adds, is_readers}
 use Rattle.board_share.specs.Readers.{IsLegalSheet, number_of}
-use Rattle.board_share.specs.Writers.{Publisher}
-use Rattle.board_serve.specs.Outcomes.{IsBrought, sheets_of, winning_of}
+use Rattle.board_share.specs.Writers.{WriterState}
+use Rattle.board_serve.specs.Outcomes.{IsCollected, sheets_of, winning_of}
 use Rattle.board_serve.specs.Work.{AreDone, IsRead, IsReadFrom, IsRising, IsWritten, omegas, register_of}
 use Rattle.board_serve.specs.declared.reader_work.ReaderWork.{ReaderWork}
 use Rattle.board_serve.specs.declared.serving.Served.{Served}
@@ -33,7 +33,7 @@ won : (omegas (Half ∷ Seventy ∷ []) (two_chairs ∷ three_chairs ∷ []) ≡
 won = (refl, refl, refl, refl)
 
 -- a writer without orders has answered nothing, has no cut, and is the register that it was, over the same table
-module _ (before : Publisher) (done : WriterWork) (h : IsWritten before [] done) where
+module _ (before : WriterState) (done : WriterWork) (h : IsWritten before [] done) where
   no_answer : map answered done.answers.items ≡ []
   no_answer = h.answers
 
@@ -47,7 +47,7 @@ module _ (before : Publisher) (done : WriterWork) (h : IsWritten before [] done)
   same_table = h.table
 
 -- one that was asked to publish answers with the number of its commands, which is a cut
-module _ (before : Publisher) (done : WriterWork) (h : IsWritten before (order.Publish ∷ []) done) where
+module _ (before : WriterState) (done : WriterWork) (h : IsWritten before (order.Publish ∷ []) done) where
   one_answer : map answered done.answers.items ≡ published (length before.ledger.journal) ∷ []
   one_answer = h.answers
 
@@ -63,7 +63,7 @@ module _ (done : ReaderWork) (h : IsRead (Half ∷ []) done) where
   its_omega is = subst (λ (sheets : List (List ℕ)). done.winning.items ≡ omegas (Half ∷ []) sheets) is h.winning
 
 -- its record has grown by its sheets, each legal, and none older than the one before; it is the same reader of the same table
-module _ (before : AnalystSeen) (done : ReaderWork) (h : IsReadFrom before done) where
+module _ (before : AnalystState) (done : ReaderWork) (h : IsReadFrom before done) where
   record_grown : done.analyst.reader.readings ≡ before.reader.readings ++ done.sheets.items
   record_grown = h.grown
 
@@ -105,7 +105,7 @@ module _ (work done : AllWork) (h : AreDone work done) where
   table_written = h.written.table
 
 -- the results are those of the writer, of the first reader and of the second
-module _ (done : AllWork) (answers : List Answer) (s : Served) (h : IsBrought done answers s) where
+module _ (done : AllWork) (answers : List Answer) (s : Served) (h : IsCollected done answers s) where
   writers_answers : answers ≡ done.writer.answers.items
   writers_answers = h.replies
 

@@ -17,11 +17,11 @@ use Rattle.two_copy_steps.specs.Lawful.{last_front}
 use Rattle.two_copy_steps.specs.Stages.{reading_steps}
 use Rattle.two_copy_steps.specs.declared.events.Event.{Event}
 use Rattle.two_copy_steps.specs.declared.events.Event.TheVariants.{Reader}
-use Rattle.board_share.specs.Analysts.{AnalystSeen}
+use Rattle.board_share.specs.Analysts.{AnalystState}
 use Rattle.board_share.specs.Histories.{Adds, is_readers}
 use Rattle.board_share.specs.Readers.{IsLegalSheet, TookSteps, last_front_of, number_of}
 use Rattle.board_share.proofs.Face.{adds_then, longer_none}
-use Rattle.board_share.specs.Writers.{Publisher}
+use Rattle.board_share.specs.Writers.{WriterState}
 use Rattle.council_core.specs.declared.calls.Answer.{Answer}
 use Rattle.board_text.specs.declared.stops.Stop.{Stop}
 use Rattle.board_text.proofs.Face.{first-more, StandsAt}
@@ -52,7 +52,7 @@ pub record CarriedOut (orders : List Order) (i : ℕ) (order : Order) (after nex
   pub cuts : next.cuts.items ≡ after.cuts.items ++ cuts_of_reply (answered answer)
 
 -- one order more was carried out
-pub written-more : (before : Publisher) (orders : List Order) (i : ℕ) (o : Order) (after next : WriterWork)
+pub written-more : (before : WriterState) (orders : List Order) (i : ℕ) (o : Order) (after next : WriterWork)
     → IsWritten before (take i orders) after → CarriedOut orders i o after next → IsWritten before (take (i + 1) orders) next
 written-more before orders i o after next done one =
     let a = one.answer in
@@ -126,7 +126,7 @@ none-read work ready =
     }
 
 -- one sheet more was read and kept
-pub read-more : (before : AnalystSeen) (after next : ReaderWork) → IsReadFrom before after → SheetRead after next → IsReadFrom before next
+pub read-more : (before : AnalystState) (after next : ReaderWork) → IsReadFrom before after → SheetRead after next → IsReadFrom before next
 read-more before after next done one =
     let old = after.analyst.reader in
     let words = next.analyst.sheet in

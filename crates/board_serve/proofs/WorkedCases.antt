@@ -10,7 +10,7 @@ use Rattle.council_core.specs.declared.calls.Answer.{Answer}
 use Rattle.board_serve.proofs.Replies.{accepted, published, refused}
 use Rattle.council_core.specs.declared.calls.Order.TheVariants as order
 use Rattle.council_core.specs.declared.commands.Command.TheVariants.{Close, Open}
-use Rattle.council_core.specs.declared.refusals.Refusal.TheVariants as why
+use Rattle.council_core.specs.declared.refusals.Refusal.TheVariants as refusal
 use Rattle.majority_rule.specs.declared.majorities.Majority.TheVariants.{Half}
 use Rattle.board_audits.specs.declared.audits.AuditFault.TheVariants as found
 use Rattle.board_share.specs.Readers.{IsLegalSheet}
@@ -20,7 +20,7 @@ use Rattle.board_text.specs.Text.{fault_at, output, stopped_run, text_of}
 use Rattle.board_text.specs.declared.faults.Fault.{Fault}
 use Rattle.board_text.specs.declared.stops.Stop.{Stop}
 use Rattle.board_text.specs.declared.stops.Stop.TheVariants as stop
-use Rattle.board_serve.specs.Outcomes.{CanBeFound, IsOutcome, IsServed, omegas_by, sheets_of, winning_of}
+use Rattle.board_serve.specs.Outcomes.{IsOutcome, IsServed, omegas_by, sheets_of, winning_of}
 use Rattle.board_serve.specs.Plans.{Planned}
 use Rattle.board_serve.specs.Serving.{Differs, EndsAfter, EndsHeldUp, WritesServeOutput, WritesAllOfServe, audited_run, work_lines}
 use Rattle.board_serve.specs.declared.serving.Served.{Served}
@@ -49,41 +49,41 @@ other_fault : (a b : ℕ) → (a ≡ b → ⊥) → {i j : ℕ} → ◌≡◌ {A
 other_fault a b apart e = apart (ap (λ (f : Fault). f.code) e)
 
 -- a mismatch comes after the lines of the work, and where readings differ
-no_mismatch_at_first : EndsAfter (Ok one_reading) [] (Some (fault_at why.Mismatch 0)) → ⊥
+no_mismatch_at_first : EndsAfter (Ok one_reading) [] (Some (fault_at refusal.Mismatch 0)) → ⊥
 no_mismatch_at_first (inl (none, inl e)) = other_fault 24 10 (λ e. omega (arith, e)) e
 no_mismatch_at_first (inl (none, inr e)) = other_fault 24 19 (λ e. omega (arith, e)) e
 no_mismatch_at_first (inr (inl stopped)) =
-    ⊎_elim (other_fault 24 10 (λ e. omega (arith, e))) (other_fault 24 27 (λ e. omega (arith, e))) (stopped-fault one_reading [] (fault_at why.Mismatch 0) stopped)
+    ⊎_elim (other_fault 24 10 (λ e. omega (arith, e))) (other_fault 24 27 (λ e. omega (arith, e))) (stopped-fault one_reading [] (fault_at refusal.Mismatch 0) stopped)
 no_mismatch_at_first (inr (inr other)) = has_lines (sym other.0)
 
-mismatch_differs : EndsAfter (Ok one_reading) (work_lines one_reading) (Some (fault_at why.Mismatch 0)) → Differs one_reading
+mismatch_differs : EndsAfter (Ok one_reading) (work_lines one_reading) (Some (fault_at refusal.Mismatch 0)) → Differs one_reading
 mismatch_differs (inl broken) = absurd (has_lines broken.0)
 mismatch_differs (inr (inl stopped)) = absurd (has_lines stopped.0)
 mismatch_differs (inr (inr other)) = other.2
 
 -- after the lines of the work no gate closes, and memory doesn't run out
-nothing_behind : (f : Fault) → (f ≡ fault_at why.Mismatch 0 → ⊥) → EndsAfter (Ok one_reading) (work_lines one_reading) (Some f) → ⊥
+nothing_behind : (f : Fault) → (f ≡ fault_at refusal.Mismatch 0 → ⊥) → EndsAfter (Ok one_reading) (work_lines one_reading) (Some f) → ⊥
 nothing_behind f apart (inl broken) = has_lines broken.0
 nothing_behind f apart (inr (inl stopped)) = has_lines stopped.0
 nothing_behind f apart (inr (inr other)) = apart other.1
 
-no_gate_behind : EndsAfter (Ok one_reading) (work_lines one_reading) (Some (fault_at why.GateClosed 0)) → ⊥
-no_gate_behind = nothing_behind (fault_at why.GateClosed 0) (other_fault 27 24 (λ e. omega (arith, e)))
+no_gate_behind : EndsAfter (Ok one_reading) (work_lines one_reading) (Some (fault_at refusal.GateClosed 0)) → ⊥
+no_gate_behind = nothing_behind (fault_at refusal.GateClosed 0) (other_fault 27 24 (λ e. omega (arith, e)))
 
-no_memory_behind : EndsAfter (Ok one_reading) (work_lines one_reading) (Some (fault_at why.OutOfMemory 0)) → ⊥
-no_memory_behind = nothing_behind (fault_at why.OutOfMemory 0) (other_fault 10 24 (λ e. omega (arith, e)))
+no_memory_behind : EndsAfter (Ok one_reading) (work_lines one_reading) (Some (fault_at refusal.OutOfMemory 0)) → ⊥
+no_memory_behind = nothing_behind (fault_at refusal.OutOfMemory 0) (other_fault 10 24 (λ e. omega (arith, e)))
 
 -- a run that ends well has all its lines
 no_audit_line : EndsAfter (Ok one_reading) (work_lines one_reading) None → ⊥
 no_audit_line h = let e = ap length h in omega (arith, e, length-append (work_lines one_reading) (audit_line ∷ []))
 
 -- an input with a fault ends in that fault, before any line
-no_other_fault : EndsAfter (Err (fault_at why.BadRecord 2)) [] (Some (fault_at why.BadHeader 1)) → ⊥
+no_other_fault : EndsAfter (Err (fault_at refusal.BadRecord 2)) [] (Some (fault_at refusal.BadHeader 1)) → ⊥
 no_other_fault (inl input) = other_fault 21 17 (λ e. omega (arith, e)) input.1
 no_other_fault (inr (none, inl e)) = other_fault 21 10 (λ e. omega (arith, e)) e
 no_other_fault (inr (none, inr e)) = other_fault 21 19 (λ e. omega (arith, e)) e
 
-no_lines_before : EndsAfter (Err (fault_at why.BadRecord 2)) (work_lines one_reading) (Some (fault_at why.BadRecord 2)) → ⊥
+no_lines_before : EndsAfter (Err (fault_at refusal.BadRecord 2)) (work_lines one_reading) (Some (fault_at refusal.BadRecord 2)) → ⊥
 no_lines_before (inl input) = has_lines input.0
 no_lines_before (inr broken) = has_lines broken.0
 
@@ -91,12 +91,8 @@ no_lines_before (inr broken) = has_lines broken.0
 differing_not_passed : (old new : Option (List ℕ)) → WritesRun {A = Unit {0}} old new (Ok tt) (audited_run false) → ⊥
 differing_not_passed old new h = cc h.0
 
-legal_not_refused : (old new : Option (List ℕ)) → WritesRun {A = Unit {0}} old new (Err (stop.Input (fault_at why.Mismatch 0))) (audited_run true) → ⊥
+legal_not_refused : (old new : Option (List ℕ)) → WritesRun {A = Unit {0}} old new (Err (stop.Fault (fault_at refusal.Mismatch 0))) (audited_run true) → ⊥
 legal_not_refused old new h = cc h.0
-
--- the audit of a legal journal finds no fault of members, journal or cuts
-found_of_readings : (CanBeFound (found.Start why.DuplicateMember) → ⊥) × (CanBeFound (found.BadJournal 1) → ⊥) × (CanBeFound (found.BadCuts 1) → ⊥)
-found_of_readings = ((λ h. h), (λ h. h), (λ h. h))
 
 -- the writer isn't held up by a failed read
 not_by_a_read : IsHeldUp stop.ReadFault → ⊥
@@ -114,7 +110,7 @@ no_memory_to_publish : StopsAt register order.Publish stop.OutOfMemory → ⊥
 no_memory_to_publish (inl lacks) = lacks.1
 no_memory_to_publish (inr closed) = cc closed
 
-closed_at_a_publication : StopsAt register order.Publish (stop.Input (fault_at why.GateClosed 0))
+closed_at_a_publication : StopsAt register order.Publish (stop.Fault (fault_at refusal.GateClosed 0))
 closed_at_a_publication = inr refl
 
 nothing_to_stop_at : (e : Stop) → StopsWithin register [] e → ⊥
@@ -122,7 +118,7 @@ nothing_to_stop_at e stops = none-some stops.1 stops.2
 
 -- of a writer without memory and a reader at a closed gate the run ends in the want of memory, and in no closed gate
 abbrev closed : Stop
-closed = stop.Input (fault_at why.GateClosed 0)
+closed = stop.Fault (fault_at refusal.GateClosed 0)
 
 abbrev lack_and_gate : ThreadEnds
 lack_and_gate = record { writer = Some stop.OutOfMemory; first = Some closed; second = None }
@@ -139,7 +135,7 @@ closed_with_memory ends is lacks =
     let by : Some stop.OutOfMemory ≡ Some closed = ap (λ (w : Option Stop). option_or w (option_or ends.first ends.second)) (sym lacks) ∙ is in cc by
 
 -- a gate that is closed to a reader ends the run where the writer did its work, and no reader lacks memory
-closed_to_a_reader : EndsHeldUp one_reading [] (fault_at why.GateClosed 0)
+closed_to_a_reader : EndsHeldUp one_reading [] (fault_at refusal.GateClosed 0)
 closed_to_a_reader = (refl, (closed, inr (record { writer = None; first = Some closed; second = None }, record { writer = tt; first = refl; second = tt }, refl), refl))
 
 no_memory_to_read : (ends : ThreadEnds) → ends.first ≡ Some stop.OutOfMemory → CanEnd register [] ends → ⊥
@@ -152,7 +148,7 @@ no_order_to_stop_at : (ends : ThreadEnds) (e : Stop) → ends.writer ≡ Some e 
 no_order_to_stop_at ends e is can = nothing_to_stop_at e (subst (λ (end : Option Stop). IfSome end (StopsWithin register [])) is can.writer)
 
 -- the cuts are the numbers that publications answered, also one that published nothing new
-cuts_of_two : cuts_of (accepted 1 ∷ published 1 ∷ refused why.ChairOpen ∷ published 1 ∷ []) ≡ 1 ∷ 1 ∷ []
+cuts_of_two : cuts_of (accepted 1 ∷ published 1 ∷ refused refusal.ChairOpen ∷ published 1 ∷ []) ≡ 1 ∷ 1 ∷ []
 cuts_of_two = refl
 
 -- a sheet of no command after a sheet of one command: the front decreases
@@ -166,7 +162,7 @@ counted = refl
 -- what an input with a bad record 2 may have written: a prefix of the output of a run that its fault, a failed read or
 -- memory that ran out ends
 abbrev bad : Fault
-bad = fault_at why.BadRecord 2
+bad = fault_at refusal.BadRecord 2
 
 abbrev seven : Option (List ℕ)
 seven = Some (7 ∷ [])
@@ -191,12 +187,12 @@ no_write f twenty lines (inl (none, is)) = let other : f.code ≡ 17 = ap (λ (g
 no_write f twenty lines (inr (none, inl is)) = let other : f.code ≡ 10 = ap (λ (g : Fault). g.code) is in omega (arith, twenty, other)
 no_write f twenty lines (inr (none, inr is)) = let other : f.code ≡ 19 = ap (λ (g : Fault). g.code) is in omega (arith, twenty, other)
 
-no_other_byte : WritesServeOutput (Some []) seven (Err (fault_at why.WriteFault 0)) (Err bad) → ⊥
+no_other_byte : WritesServeOutput (Some []) seven (Err (fault_at refusal.WriteFault 0)) (Err bad) → ⊥
 no_other_byte h = by_end h.0.lines h.0.end h.1 h.2
   where
     by_end : (lines : List LineBytes) (end : Option Fault) → EndsAfter (Err bad) lines end
-        → ((end ≡ Some (fault_at why.WriteFault 0)) × Appends (Some []) seven (output (record { lines = lines; end = end })))
-        ⊎ ((fault_at why.WriteFault 0 ≡ fault_at why.WriteFault 0) × AppendsFront (Some []) seven (output (record { lines = lines; end = end }))) → ⊥
+        → ((end ≡ Some (fault_at refusal.WriteFault 0)) × Appends (Some []) seven (output (record { lines = lines; end = end })))
+        ⊎ ((fault_at refusal.WriteFault 0 ≡ fault_at refusal.WriteFault 0) × AppendsFront (Some []) seven (output (record { lines = lines; end = end }))) → ⊥
     by_end lines None e t = e
     by_end lines (Some f) e (inl t) =
         let twenty : f.code ≡ 20 = ap code_in t.0 in
@@ -211,7 +207,7 @@ no_other_line h = by_end h.0.lines h.0.end h.1 h.2
   where
     by_end : (lines : List LineBytes) (end : Option Fault) → EndsAfter (Err bad) lines end
         → ((end ≡ Some bad) × Appends (Some []) seven (output (record { lines = lines; end = end })))
-        ⊎ ((bad ≡ fault_at why.WriteFault 0) × AppendsFront (Some []) seven (output (record { lines = lines; end = end }))) → ⊥
+        ⊎ ((bad ≡ fault_at refusal.WriteFault 0) × AppendsFront (Some []) seven (output (record { lines = lines; end = end }))) → ⊥
     by_end lines None e t = e
     by_end lines (Some f) e (inl t) =
         let P : List LineBytes → Type 0 = λ ls. Appends (Some []) seven (output (record { lines = ls; end = Some f })) in

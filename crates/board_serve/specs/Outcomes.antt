@@ -3,8 +3,6 @@ use Rattle.std.specs.Prelude.{◌≡◌, ℕ, List, [], ◌∷◌, length, map, 
 use Rattle.council_core.specs.Rolls.{IsLegal}
 use Rattle.council_core.specs.Sequential.{AreLegalRecords, Call, Reply, answered, ordered, replies_of, state_after}
 use Rattle.majority_rule.specs.declared.majorities.Majority.{Majority}
-use Rattle.board_audits.specs.declared.audits.AuditFault.{AuditFault}
-use Rattle.board_audits.specs.declared.audits.AuditFault.TheVariants as found
 use Rattle.board_share.specs.Readers.{IsLegalSheet}
 use Rattle.council_core.specs.declared.calls.Answer.{Answer}
 use Rattle.board_serve.specs.Plans.{Planned}
@@ -21,7 +19,7 @@ abbrev pub winning_of : Served → List (List ℕ)
 winning_of s = map (λ v. v.items) s.winning.items
 
 -- the results of the threads, combined; the journal is the writer's
-pub record IsBrought (done : AllWork) (answers : List Answer) (s : Served) : Type 0 where
+pub record IsCollected (done : AllWork) (answers : List Answer) (s : Served) : Type 0 where
   pub replies : answers ≡ done.writer.answers.items
   pub journal : s.journal.items ≡ done.writer.writer.ledger.journal
   pub legal : IsLegal done.writer.writer.ledger.opening s.journal.items
@@ -58,15 +56,6 @@ pub record IsServed (p : Planned) (s : Served) : Type 0 where
 -- the journal, the cuts, with the start's cut 0 before them, and the readings are legal records
 abbrev pub ServedLegalRecords : Planned → Served → Type 0
 ServedLegalRecords p s = AreLegalRecords p.start.ledger.opening s.journal.items (0 ∷ s.cuts.items) (sheets_of s)
-
--- the faults that an audit can find in records whose journal is legal and whose cuts are in order:
--- a mismatched reading, or out of memory
-abbrev pub CanBeFound : AuditFault → Type 0
-CanBeFound (found.Start why) = ⊥
-CanBeFound (found.BadJournal place) = ⊥
-CanBeFound (found.BadCuts place) = ⊥
-CanBeFound (found.Mismatch reader place) = Unit {0}
-CanBeFound found.OutOfMemory = Unit {0}
 
 -- the answers are the sequential register's replies, and IsServed holds
 pub record IsOutcome (p : Planned) (answers : List Answer) (s : Served) : Type 0 where

@@ -3,7 +3,7 @@ use Rattle.std.specs.Prelude.{◌≡◌, ℕ, ◌+◌, ◌⊎◌, Bool, true, fa
 use Rattle.std.specs.Prelude.{None, Result, Ok, Err, length, map}
 use Rattle.std.specs.Io.KnownBytes.{Appends}
 use Rattle.council_core.specs.Sequential.{Reply}
-use Rattle.council_core.specs.declared.refusals.Refusal.TheVariants as why
+use Rattle.council_core.specs.declared.refusals.Refusal.TheVariants as refusal
 use Rattle.board_text.specs.Lines.{LineBytes, audit_line, reader_line, reply_line}
 use Rattle.board_text.specs.Output.{AppendsFront, IsBroken, fault_of}
 use Rattle.board_text.specs.Text.{Run, fault_at, output, printed_run, stopped_run, text_of}
@@ -31,19 +31,19 @@ work_lines p = lines_of_work (reported_by p) (map length p.records.asked)
 -- the result of the audit: its line, or a fault
 abbrev pub audited_run : Bool → Run
 audited_run true = printed_run (audit_line ∷ [])
-audited_run false = stopped_run (fault_at why.Mismatch 0)
+audited_run false = stopped_run (fault_at refusal.Mismatch 0)
 
 -- the errors that end a report early: a failed write, or a mismatch
 abbrev pub IsReportStop : Stop → Type 0
-IsReportStop e = (e ≡ stop.WriteFault) ⊎ (e ≡ stop.Input (fault_at why.Mismatch 0))
+IsReportStop e = (e ≡ stop.WriteFault) ⊎ (e ≡ stop.Fault (fault_at refusal.Mismatch 0))
 
 -- the results match the plan, but the readings are not legal records
 abbrev pub Differs : Planned → Type 0
 Differs p = (s : Served) × IsServed p s × (ServedLegalRecords p s → ⊥)
 
--- a fault of the input ends a run before any line
-abbrev pub EndsInInputFault : Fault → List LineBytes → Fault → Type 0
-EndsInInputFault g front f = (front ≡ []) × (f ≡ g)
+-- a fault of the limits or of the input ends a run before any line
+abbrev pub EndsBeforeThreads : Fault → List LineBytes → Fault → Type 0
+EndsBeforeThreads g front f = (front ≡ []) × (f ≡ g)
 
 -- out of memory or a failed read ends a run before any line
 abbrev pub EndsBroken : List LineBytes → Fault → Type 0
@@ -56,16 +56,16 @@ EndsHeldUp p front f =
 
 -- a mismatch of readings that differ ends a run after the lines of the work
 abbrev pub EndsMismatched : Planned → List LineBytes → Fault → Type 0
-EndsMismatched p front f = (front ≡ work_lines p) × (f ≡ fault_at why.Mismatch 0) × Differs p
+EndsMismatched p front f = (front ≡ work_lines p) × (f ≡ fault_at refusal.Mismatch 0) × Differs p
 
 -- the lines of a run, and the fault that ends it, if any
 abbrev pub EndsAfter : Result Planned Fault → List LineBytes → Option Fault → Type 0
 EndsAfter (Err g) front None = ⊥
-EndsAfter (Err g) front (Some f) = EndsInInputFault g front f ⊎ EndsBroken front f
+EndsAfter (Err g) front (Some f) = EndsBeforeThreads g front f ⊎ EndsBroken front f
 EndsAfter (Ok p) front None = front ≡ work_lines p ++ audit_line ∷ []
 EndsAfter (Ok p) front (Some f) = EndsBroken front f ⊎ EndsHeldUp p front f ⊎ EndsMismatched p front f
 
--- a run that a plan, or the fault of the input, allows
+-- a run that a plan, or the fault before it, allows
 abbrev pub IsServeRun : Result Planned Fault → Run → Type 0
 IsServeRun spec run = EndsAfter spec run.lines run.end
 
@@ -91,4 +91,4 @@ abbrev pub WritesServeOutput : Option (List ℕ) → Option (List ℕ) → Resul
 WritesServeOutput old new (Ok s) spec = WritesAllOfServe old new s spec
 WritesServeOutput old new (Err f) spec = (run : Run) × IsServeRun spec run
     × (((run.end ≡ Some f) × Appends old new (output run))
-    ⊎ ((f ≡ fault_at why.WriteFault 0) × AppendsFront old new (output run)))
+    ⊎ ((f ≡ fault_at refusal.WriteFault 0) × AppendsFront old new (output run)))

@@ -9,16 +9,16 @@ use Rattle.council_core.specs.Coalitions.{omega_of}
 use Rattle.council_core.specs.Sequential.{Sequential, Reply, WouldAccept, answered, ordered, reading, replies_of}
 use Rattle.council_core.specs.Sequential.{state_after}
 use Rattle.council_core.specs.Sheets.{front_of, open_chairs}
-use Rattle.council_core.specs.declared.refusals.Refusal.TheVariants as why
+use Rattle.council_core.specs.declared.refusals.Refusal.TheVariants as refusal
 use Rattle.majority_rule.specs.Winning.{rule_of}
 use Rattle.majority_rule.specs.declared.majorities.Majority.{Majority}
 use Rattle.two_copy_steps.specs.Lawful.{last_front}
 use Rattle.two_copy_steps.specs.Stages.{reading_steps}
 use Rattle.two_copy_steps.specs.declared.events.Event.TheVariants.{Reader}
-use Rattle.board_share.specs.Analysts.{AnalystSeen}
+use Rattle.board_share.specs.Analysts.{AnalystState}
 use Rattle.board_share.specs.Histories.{Adds, is_readers}
 use Rattle.board_share.specs.Readers.{IsLegalSheet, number_of}
-use Rattle.board_share.specs.Writers.{Publisher}
+use Rattle.board_share.specs.Writers.{WriterState}
 use Rattle.board_text.specs.Text.{fault_at}
 use Rattle.board_text.specs.declared.stops.Stop.{Stop}
 use Rattle.board_text.specs.declared.stops.Stop.TheVariants as stop
@@ -29,7 +29,7 @@ use Rattle.board_serve.specs.declared.threads.AllWork.{AllWork}
 use Rattle.board_serve.specs.declared.writer_work.WriterWork.{WriterWork}
 
 -- a writer as a sequential register
-abbrev pub register_of : Publisher → Sequential
+abbrev pub register_of : WriterState → Sequential
 register_of p = record { ledger = p.ledger; published = length p.published }
 
 -- the number that a reply returns, if it is the reply to a publication
@@ -45,7 +45,7 @@ cuts_of replies = flat_map cuts_of_reply replies
 
 -- a gate was closed
 abbrev pub IsClosed : Stop → Type 0
-IsClosed e = e ≡ stop.Input (fault_at why.GateClosed 0)
+IsClosed e = e ≡ stop.Fault (fault_at refusal.GateClosed 0)
 
 -- the errors that end the writer's work early: out of memory, or a closed gate
 abbrev pub IsHeldUp : Stop → Type 0
@@ -97,7 +97,7 @@ pub record CanWrite (work : WriterWork) : Type 0 where
 -- a writer carried out these orders: its answers are the sequential register's replies to them, its
 -- register and published commands are those after them, the cuts are the numbers that its
 -- publications returned, and its table is the same
-pub record IsWritten (before : Publisher) (orders : List Order) (done : WriterWork) : Type 0 where
+pub record IsWritten (before : WriterState) (orders : List Order) (done : WriterWork) : Type 0 where
   pub answers : map answered done.answers.items ≡ replies_of (register_of before) (map ordered orders)
   pub register : register_of done.writer ≡ state_after (register_of before) (map ordered orders)
   pub cuts : done.cuts.items ≡ cuts_of (replies_of (register_of before) (map ordered orders))
@@ -133,7 +133,7 @@ IsRising low (words ∷ sheets) = (low ≤ front_of words) × IsRising (front_of
 -- a reader of one table took one whole reading for each sheet and no other step: its record grew by
 -- exactly these sheets, each the sheet after some legal list of commands, with fronts that never
 -- decrease
-pub record IsReadFrom (before : AnalystSeen) (done : ReaderWork) : Type 0 where
+pub record IsReadFrom (before : AnalystState) (done : ReaderWork) : Type 0 where
   pub table : done.analyst.reader.table ≡ before.reader.table
   pub number : number_of done.analyst.reader ≡ number_of before.reader
   pub steps : Adds (is_readers (number_of before.reader))

@@ -83,7 +83,7 @@ impl Plan {
     // The register and the records.
     pub(crate) fn into_parts(self) -> (Register, Records)
         ensures parts { self ≡ plan_over result.0 (records_of result.1) }
-        ensures starts { result.0.journal ≡ [] }
+        ensures empty { result.0.journal ≡ [] }
     {
         (self.register, self.records)
     }

@@ -10,8 +10,8 @@ use council_core::Sheet;
 use majority_rule::Majority;
 use std::alloc::{AllocError, Global};
 
-// The majorities of the readings of reader `number`, the sheets that it read, and for each sheet
-// the number of winning coalitions that it returned.
+// An analyst, the number of its reader, the majorities of its readings, the sheets that it read,
+// and for each sheet the number of winning coalitions that it returned.
 #[derive(Drop)]
 pub(crate) struct ReaderWork {
     pub(crate) analyst: Analyst,

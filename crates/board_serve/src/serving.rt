@@ -1,19 +1,17 @@
 //! Serves an input with one writer thread and two reader threads.
-ghost use Rattle.std.specs.Prelude.{◌≡◌, ◌≢◌, ◌∷◌, [], Ok, Some, true, false, map};
-ghost use Rattle.std.specs.Prelude.{IfOk, IfErr, IsErrOf, IsOkUnless, OnOk};
+ghost use Rattle.std.specs.Prelude.{◌≡◌, ◌∷◌, [], Ok, Some, true, false, map};
+ghost use Rattle.std.specs.Prelude.{IfOk, IfErr, IsErrOf, IsOkUnless};
 ghost use Rattle.recording_io.specs.Tapes.{IsSameWriter, OfInput};
 ghost use Rattle.council_core.specs.Laws.{IsOpening};
-ghost use Rattle.council_core.specs.Rolls.{IsLegal};
-ghost use Rattle.council_core.specs.Sequential.{AreCuts, AreLegalRecords, answered};
-ghost use Rattle.council_core.specs.declared.refusals.Refusal.TheVariants as why;
+ghost use Rattle.council_core.specs.Sequential.{AreLegalRecords, answered};
+ghost use Rattle.council_core.specs.declared.refusals.Refusal.TheVariants as refusal;
 ghost use Rattle.board_text.specs.Streams.{IsOfDevice, IsReadFault, RunsWithin, WritesWithin, most_reads};
 ghost use Rattle.board_text.specs.Lines.{reply_line};
 ghost use Rattle.board_text.specs.Output.{IsBadLimit, WritesRun};
-ghost use Rattle.board_text.specs.Sinks.{GoesOn};
+ghost use Rattle.board_text.specs.OutputStates.{IsSameOutput};
 ghost use Rattle.board_text.specs.Text.{fault_at, in_range, printed_run, with_lines};
 ghost use Rattle.board_text.specs.declared.stops.Stop.TheVariants as stop;
-ghost use Rattle.board_audits.specs.declared.audits.AuditFault.TheVariants.{OutOfMemory as LacksMemory};
-ghost use Rattle.board_serve.specs.Outcomes.{CanBeFound, IsOutcome, IsServed, ServedLegalRecords, sheets_of};
+ghost use Rattle.board_serve.specs.Outcomes.{IsOutcome, IsServed, ServedLegalRecords, sheets_of};
 ghost use Rattle.board_serve.specs.Plans.{plan_of, two_readers};
 ghost use Rattle.board_serve.specs.Serving.{IsReportStop, WritesServeOutput, WritesServeRun};
 ghost use Rattle.board_serve.specs.Serving.{audited_run, count_lines, lines_of_work};
@@ -48,26 +46,9 @@ pub struct Served {
     pub winning: Vec<Vec<u64>>,
 }
 
-// What a fault of the audit means here: the journal is legal and the cuts are in order, so that only
-// a reading can be illegal. `Ok(false)`: a reading is; `Err`: memory ran out.
-fn is_mismatch(fault: AuditFault) -> Result<bool, Stop>
-    requires { CanBeFound fault }
-    ensures legal { IfOk result (λ legal. legal ≡ false) }
-    ensures mismatch { OnOk result (fault ≢ LacksMemory) }
-    ensures memory { IsOkUnless result stop.OutOfMemory }
-{
-    match fault {
-        AuditFault::Mismatch { .. } => Ok(false),
-        AuditFault::OutOfMemory => Err(Stop::OutOfMemory),
-        _ => unreachable!(),
-    }
-}
-
 // Whether the results of a run are legal records.
 fn are_legal(alloc: Global, members: &[(MemberCode, Votes)], served: &Served) -> Result<bool, Stop>
-    requires starts { IsOpening members.now }
-    requires legal { IsLegal members.now served.now.journal.items }
-    requires in_order { AreCuts served.now.journal.items (0 ∷ served.now.cuts.items) }
+    requires opening { IsOpening members.now }
     ensures legal { IfOk result
         (λ legal. legal ≡ true
         → AreLegalRecords members.now served.now.journal.items (0 ∷ served.now.cuts.items) (sheets_of served.now)) }
@@ -77,13 +58,16 @@ fn are_legal(alloc: Global, members: &[(MemberCode, Votes)], served: &Served) ->
         → ⊥) }
     ensures memory { IsOkUnless result stop.OutOfMemory }
 {
+    // The laws that the proof uses.
     opening_law();
     audit_law();
     let journal = served.journal.as_slice();
     let cuts = served.cuts.as_slice();
     match audit(alloc, members, journal, cuts, served.readings.as_slice()) {
         Ok(()) => Ok(true),
-        Err(fault) => is_mismatch(fault),
+        Err(AuditFault::OutOfMemory) => Err(Stop::OutOfMemory),
+        // By `audit_law` any other fault means that the records aren't legal.
+        Err(_) => Ok(false),
     }
 }
 
@@ -111,9 +95,9 @@ fn perform<G: Gate, R: Threads + Wait + Sync>(
 
 // Writes the lines of these answers.
 fn write_answers<W: Recorder>(out: &mut Output<'_, W>, answers: &[Answer]) -> Result<(), Stop>
-    ensures wrote { WritesRun out.old.held out.new.held result
+    ensures wrote { WritesRun out.old.contents out.new.contents result
         (printed_run (map (λ a. reply_line (answered a)) answers.now)) }
-    ensures continues { GoesOn out.old out.new }
+    ensures same_output { IsSameOutput out.old out.new }
     ensures only { IsOkUnless result stop.WriteFault }
 {
     for answer in answers {
@@ -124,9 +108,9 @@ fn write_answers<W: Recorder>(out: &mut Output<'_, W>, answers: &[Answer]) -> Re
 
 // Writes the number of readings of each reader.
 fn write_counts<W: Recorder>(out: &mut Output<'_, W>, counts: (u64, u64)) -> Result<(), Stop>
-    ensures wrote { WritesRun out.old.held out.new.held result
+    ensures wrote { WritesRun out.old.contents out.new.contents result
         (printed_run (count_lines 1 (counts.0 ∷ counts.1 ∷ []))) }
-    ensures continues { GoesOn out.old out.new }
+    ensures same_output { IsSameOutput out.old out.new }
     ensures only { IsOkUnless result stop.WriteFault }
 {
     out.write_line(line_of_count(1, counts.0))?;
@@ -140,10 +124,10 @@ fn report<W: Recorder>(
     counts: (u64, u64),
     legal: bool,
 ) -> Result<(), Stop>
-    ensures wrote { WritesRun out.old.held out.new.held result
+    ensures wrote { WritesRun out.old.contents out.new.contents result
         (with_lines (lines_of_work (map answered answers.now) (counts.0 ∷ counts.1 ∷ [])) (audited_run legal)) }
     ensures causes { IfErr result IsReportStop }
-    ensures continues { GoesOn out.old out.new }
+    ensures same_output { IsSameOutput out.old out.new }
 {
     write_answers(out, answers)?;
     write_counts(out, counts)?;
@@ -161,8 +145,8 @@ fn serve_plan<G: Gate, T: Threads + Wait + Sync, W: Recorder>(
     plan: Plan,
     out: &mut Output<'_, W>,
 ) -> Result<Served, Stop>
-    ensures wrote { WritesServeRun out.old.held out.new.held result (Ok plan) }
-    ensures continues { GoesOn out.old out.new }
+    ensures wrote { WritesServeRun out.old.contents out.new.contents result (Ok plan) }
+    ensures same_output { IsSameOutput out.old out.new }
 {
     let counts = plan.counts();
     let (answers, served, legal) = perform(rt, alloc, gate, plan)?;
@@ -180,11 +164,11 @@ fn serve_to<G: Gate, T: Threads + Wait + Sync, R: Read + Drop, W: Recorder>(
     journal_limit: u32,
 ) -> Result<Served, Stop>
     ensures wrote { OfInput input.old input.new
-        (λ bytes. WritesServeRun out.old.held out.new.held result (plan_of journal_limit bytes)) }
+        (λ bytes. WritesServeRun out.old.contents out.new.contents result (plan_of journal_limit bytes)) }
     ensures limits_first { in_range (two_readers journal_limit) ≡ false
-        → IsErrOf result (Stop.Input (fault_at why.BadLimit 0)) × (input.new ≡ input.old) }
+        → IsErrOf result (Stop.Fault (fault_at refusal.BadLimit 0)) × (input.new ≡ input.old) }
     ensures reads { RunsWithin IsReadFault most_reads input.old.calls input.new.calls result }
-    ensures continues { GoesOn out.old out.new }
+    ensures same_output { IsSameOutput out.old out.new }
 {
     let limits = Limits {
         readers: SERVED_READERS as u8,

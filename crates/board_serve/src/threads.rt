@@ -1,8 +1,8 @@
 //! Starts the threads of a run, waits for them, and combines their results.
 ghost use Rattle.std.specs.Prelude.{◌≡◌, ◌∷◌, [], Ok, Some, length, IfOk, IfErr, IsOkUnless};
-ghost use Rattle.board_share.specs.Openings.{share_start, new_readers, new_publisher};
+ghost use Rattle.board_share.specs.Openings.{share_start, new_readers, new_writer};
 ghost use Rattle.board_text.specs.declared.stops.Stop.TheVariants as stop;
-ghost use Rattle.board_serve.specs.Outcomes.{IsBrought};
+ghost use Rattle.board_serve.specs.Outcomes.{IsCollected};
 ghost use Rattle.board_serve.specs.Work.{AreDone, AreReady, CanAsk, CanWrite, HasAsked, HasWritten, StopsAll};
 ghost use Rattle.board_serve.specs.Work.{ends_of, register_of, returned_stop};
 
@@ -61,7 +61,7 @@ pub(crate) fn seat_all(alloc: Global, register: Register, records: Records) -> R
     ensures memory { IsOkUnless result stop.OutOfMemory }
 
     // The writer and each reader are those of the board's start, and have their records.
-    ensures writer { IfOk result (λ w. w.writer.writer ≡ new_publisher w.writer.writer.table register SERVED_READERS) }
+    ensures writer { IfOk result (λ w. w.writer.writer ≡ new_writer w.writer.writer.table register SERVED_READERS) }
     ensures orders { IfOk result (λ w. w.writer.orders ≡ records.orders) }
     ensures readers { IfOk result
         (λ w. w.first.analyst.reader ∷ w.second.analyst.reader ∷ []
@@ -212,7 +212,7 @@ pub(crate) fn run_all<G: Gate, R: Threads + Wait + Sync>(
 // Combines the results of the threads: the writer's answers, journal and cuts, and the readings of
 // each reader.
 pub(crate) fn collect(alloc: Global, done: AllWork) -> Result<(Vec<Answer>, Served), AllocError>
-    ensures brought { IfOk result (λ r. IsBrought done r.0.items r.1) }
+    ensures collected { IfOk result (λ r. IsCollected done r.0.items r.1) }
 {
     let AllWork {
         writer: work,

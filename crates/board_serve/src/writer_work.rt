@@ -14,7 +14,7 @@ use council_core::{Answer, Command, Order, Refusal};
 use std::alloc::{AllocError, Global};
 use std::sync::Wait;
 
-// The writer's records, the answers to them, and the numbers that its publications returned.
+// A writer, its records, the answers to them, and the numbers that its publications returned.
 #[derive(Drop)]
 pub(crate) struct WriterWork {
     pub(crate) writer: Writer,

@@ -5,8 +5,8 @@ use Rattle.board_share.proofs.Names.{get_elem?, get_or, held_by, History, histor
 use Rattle.board_share.proofs.Names.{is_writers, IsAccepted, IsLawfulBoard, IsReader, IsWriter, known_after, known_by}
 use Rattle.board_share.proofs.Names.{KnowsAfter, Leaving, Ledger, length, List, machine_at_start, machine_of}
 use Rattle.board_share.proofs.Names.{MachineState, map, Me, Moved, ne_eqb, None, Note, number_of, Ok, Opening, Option}
-use Rattle.board_share.proofs.Names.{Phase, phase_note, Publish, Published, Publisher, publisher_at, Read, Reader}
-use Rattle.board_share.proofs.Names.{ReaderSeen, Reading, refl, Result, RuleHolds, same_Some, seat_view, SeatsReader}
+use Rattle.board_share.proofs.Names.{Phase, phase_note, Publish, Published, WriterState, writer_at, Read, Reader}
+use Rattle.board_share.proofs.Names.{ReaderState, Reading, refl, Result, RuleHolds, same_Some, seat_view, SeatsReader}
 use Rattle.board_share.proofs.Names.{SeatsWriter, Seeing, set, ShareStart, sheet, Skipped, slice_get, Some, some, Stage}
 use Rattle.board_share.proofs.Names.{stage_action, stage_note, Submit, subst, suc, Swapping, sym, TableId, take}
 use Rattle.board_share.proofs.Names.{transition, true, View, Writer, WriterView, Writing, zero, ℕ, ⊎_elim, ◌++◌, ◌<◌}
@@ -114,7 +114,7 @@ calls_append (event ∷ events) more m =
     ∙ sym (append_assoc first (calls_from (transition m event).0 events) (calls_from (state_after_events (transition m event).0 events) more))
 
 pub places : PlacesLaw
-places h events = calls_append h.events events (machine_at_start h.begun.register h.begun.readers)
+places h events = calls_append h.events events (machine_at_start h.origin.register h.origin.readers)
 
 -- events of which none is an actor's own make no calls of it
 none_own : (own : Event → Bool) (rest : List Event) (s : Sequential) (m : MachineState) → filter own rest ≡ [] → replies_own own s m rest ≡ []
@@ -135,11 +135,11 @@ own_first own (event ∷ events) rest s m e =
 
 -- all calls of an actor are in a history after which it took no step
 calls_known : (number : ℕ) (own : Event → Bool) → Alike number own → (known h : History) (rest : List Event) → h ≡ history_with known rest → filter own rest ≡ []
-    → replies_to number h.begun (calls_in known) ≡ replies_to number h.begun (calls_in h)
+    → replies_to number h.origin (calls_in known) ≡ replies_to number h.origin (calls_in h)
 calls_known number own alike known h rest e none =
-    let m : MachineState = machine_at_start known.begun.register known.begun.readers in
-    let s : Sequential = register_before known.begun in
-    subst (λ (x : History). replies_to number x.begun (calls_in known) ≡ replies_to number x.begun (calls_in x)) (sym e)
+    let m : MachineState = machine_at_start known.origin.register known.origin.readers in
+    let s : Sequential = register_before known.origin in
+    subst (λ (x : History). replies_to number x.origin (calls_in known) ≡ replies_to number x.origin (calls_in x)) (sym e)
     (alike_all number own alike known.events s m ∙ (sym (own_first own known.events rest s m none) ∙ sym (alike_all number own alike (known.events ++ rest) s m)))
 
 -- The cuts.
@@ -404,100 +404,100 @@ by_stage words given (Leaving side loaded) readings sheets replies h e f =
 
 -- The seats.
 
-seat_there : (h : History) (s : table.State Unit View) → IsAfter h s → (p : ReaderSeen) → SeatsReader s p
-    → (p.opening ≡ h.begun.register.opening) × (slice_get (known_after h).readers p.index ≡ Some (known_by p))
+seat_there : (h : History) (s : table.State Unit View) → IsAfter h s → (p : ReaderState) → SeatsReader s p
+    → (p.opening ≡ h.origin.register.opening) × (slice_get (known_after h).readers p.index ≡ Some (known_by p))
 seat_there h s after p seat =
-    let e = with_opening_is h.begun.register.opening p.opening (slice_get (known_after h).readers p.index) (known_by p)
+    let e = with_opening_is h.origin.register.opening p.opening (slice_get (known_after h).readers p.index) (known_by p)
     ((after.readers p.index).same seat.0 (seat_view p) (p.opening, known_by p) seat.1 (only_here p.index (p.opening, known_by p))) in
     (sym e.0, e.1)
 
 -- what a `Writer` and a `Reader` hold, by their invariants: where their seats are seats of a state, so are they
 pub writer_in : (s : table.State Unit View) (id side : ℕ) (board seat : TableId) (me : Me Unit View) (ledger : Ledger) (out : List Bool) → IsWriter board seat me ledger side out → get_elem? s.views id ≡ some me.0
-    → SeatsWriter s (publisher_at board ledger me.0)
+    → SeatsWriter s (writer_at board ledger me.0)
 writer_in s id side board seat me ledger out h at = (id, me.0, at, record { writes = h.writes; staged = h.staged_begins; same = refl })
 
-pub reader_in : (s : table.State Unit View) (id : ℕ) (board seat : TableId) (me : Me Unit View) (p : ReaderSeen) → IsReader board seat me p → get_elem? s.views id ≡ some me.0 → SeatsReader s p
+pub reader_in : (s : table.State Unit View) (id : ℕ) (board seat : TableId) (me : Me Unit View) (p : ReaderState) → IsReader board seat me p → get_elem? s.views id ≡ some me.0 → SeatsReader s p
 reader_in s id board seat me p h at = (id, at ∙ ap (λ (z : Me Unit View). some z.0) h.alone)
 
 -- All that a history tells.
-module _ (h : History) (k : IsLedger h.begun.register) where
+module _ (h : History) (k : IsLedger h.origin.register) where
   abbrev m : MachineState
-  m = machine_at_start h.begun.register h.begun.readers
+  m = machine_at_start h.origin.register h.origin.readers
 
   abbrev t : SequentialRun
-  t = sequential_start h.begun.register
+  t = sequential_start h.origin.register
 
   abbrev aux : Auxiliary
-  aux = auxiliary_start h.begun.register h.begun.readers
+  aux = auxiliary_start h.origin.register h.origin.readers
 
   begins : Together t m aux
-  begins = start_together h.begun.register h.begun.readers k.legal.0
+  begins = start_together h.origin.register h.origin.readers k.legal.0
 
   ends : Together (sequential_steps t m h.events) (machine_of h) (auxiliary_of h)
   ends = together_end h.events t m aux begins
 
-  register_is : register_after h.begun (calls_in h) ≡ sequential_of (machine_of h)
-  register_is = ap (state_after (register_before h.begun)) (calls_are h.events m) ∙ ((one_run h.events t m).1 ∙ ends.agrees.register)
+  register_is : register_after h.origin (calls_in h) ≡ sequential_of (machine_of h)
+  register_is = ap (state_after (register_before h.origin)) (calls_are h.events m) ∙ ((one_run h.events t m).1 ∙ ends.agrees.register)
 
-  published_is : published_in h.begun (calls_in h) ≡ (machine_of h).writer.published
+  published_is : published_in h.origin (calls_in h) ≡ (machine_of h).writer.published
   published_is = ap (λ (s : Sequential). take s.published s.ledger.journal) register_is ∙ shown (machine_of h) (auxiliary_of h) ends.lawful
 
-  answers_are : answers_in (reported_in h) ≡ replies_to 0 h.begun (calls_in h)
-  answers_are = sym (alike_all 0 is_writers by_writer h.events (register_before h.begun) m ∙ answers_all h.events t m aux begins)
+  answers_are : answers_in (reported_in h) ≡ replies_to 0 h.origin (calls_in h)
+  answers_are = sym (alike_all 0 is_writers by_writer h.events (register_before h.origin) m ∙ answers_all h.events t m aux begins)
 
-  cuts_are : cuts_replied h.begun (calls_in h) ≡ (auxiliary_of h).cuts
+  cuts_are : cuts_replied h.origin (calls_in h) ≡ (auxiliary_of h).cuts
   cuts_are =
-      let first : ℕ = length h.begun.register.journal in
+      let first : ℕ = length h.origin.register.journal in
       ap (λ (rs : List Reply). first ∷ fronts_after first rs) (sym answers_are)
-      ∙ (sym (cuts_all h.events m aux (λ i. run_cuts h.begun.register h.begun.readers (take i h.events))) ∙ append-nil (auxiliary_of h).cuts)
+      ∙ (sym (cuts_all h.events m aux (λ i. run_cuts h.origin.register h.origin.readers (take i h.events))) ∙ append-nil (auxiliary_of h).cuts)
 
-  owed : Owed (machine_of h) (sequential_steps t m h.events).replied (λ r. replies_own (is_readers (suc r)) (register_before h.begun) m h.events) (λ r. map reading (sheets_reported (suc r) (reported_in h)))
+  owed : Owed (machine_of h) (sequential_steps t m h.events).replied (λ r. replies_own (is_readers (suc r)) (register_before h.origin) m h.events) (λ r. map reading (sheets_reported (suc r) (reported_in h)))
   owed = owed_all h.events t m aux begins (λ r. []) (λ r. []) (λ r stage at. none_pending stage)
 
   module _ (s : table.State Unit View) (after : IsAfter h s) where
-    puts : (p : ReaderSeen) → SeatsReader s p → p.readings ≡ sheets_reported (number_of p) (reported_in h) ++ about_to_leave p.stage
+    puts : (p : ReaderState) → SeatsReader s p → p.readings ≡ sheets_reported (number_of p) (reported_in h) ++ about_to_leave p.stage
     puts p seat =
         let found = viewed_back (machine_of h).readers (auxiliary_of h).records p.index (known_by p) (seat_there h s after p seat).1 in
-        sym found.1 ∙ run_reported h.begun.register h.begun.readers h.events p.index p.stage found.0
+        sym found.1 ∙ run_reported h.origin.register h.origin.readers h.events p.index p.stage found.0
 
-    reads : (p : ReaderSeen) → SeatsReader s p → ReadsFrom h.begun (calls_in h) p
+    reads : (p : ReaderState) → SeatsReader s p → ReadsFrom h.origin (calls_in h) p
     reads p seat =
         let there = seat_there h s after p seat in
         let found = viewed_back (machine_of h).readers (auxiliary_of h).records p.index (known_by p) there.1 in
-        let told : List Reply = replies_own (is_readers (number_of p)) (register_before h.begun) m h.events in
+        let told : List Reply = replies_own (is_readers (number_of p)) (register_before h.origin) m h.events in
         let r = by_stage (machine_of h).words ((sequential_steps t m h.events).replied (number_of p)) p.stage p.readings (sheets_reported (number_of p) (reported_in h)) told
         (ends.agrees.held p.index p.stage found.0) (puts p seat) (owed p.index p.stage found.0) in
         record {
           opening = there.0;
           due = r.due;
           is_due = r.is_due;
-          replies = alike_all (number_of p) (is_readers (number_of p)) (by_reader p.index) h.events (register_before h.begun) m ∙ r.same;
+          replies = alike_all (number_of p) (is_readers (number_of p)) (by_reader p.index) h.events (register_before h.origin) m ∙ r.same;
         }
 
-    writes : KnowsAfter h (known_after h).writer → (b : Publisher) → SeatsWriter s b → WritesTo h.begun (calls_in h) b
+    writes : KnowsAfter h (known_after h).writer → (b : WriterState) → SeatsWriter s b → WritesTo h.origin (calls_in h) b
     writes knows b seat =
         let v : View = seat.1 in
-        let there : (h.begun.register.opening, (known_after h).writer) ≡ (b.ledger.opening, held_by v) =
+        let there : (h.origin.register.opening, (known_after h).writer) ≡ (b.ledger.opening, held_by v) =
         same_Some _ (b.ledger.opening, held_by v) (after.writer.same seat.0 v (b.ledger.opening, held_by v) seat.2 seat.3.writes) in
         let held : (known_after h).writer ≡ held_by v = ap (λ (z : Opening × WriterView). z.1) there in
-        let journal : (register_after h.begun (calls_in h)).ledger.journal ≡ (held_by v).state.staged =
+        let journal : (register_after h.origin (calls_in h)).ledger.journal ≡ (held_by v).state.staged =
         ap (λ (x : Sequential). x.ledger.journal) register_is ∙ (ap (λ (x : Ledger). x.journal) knows.register ∙ ap (λ (x : WriterView). x.state.staged) held) in
         record {
           opening = ap (λ (z : Opening × WriterView). z.0) (sym there);
           accepted = subst (λ (commands : List Command). IsPrefix commands b.ledger.journal) (sym journal) seat.3.staged;
-          published = ap (λ (x : Publisher). x.published) seat.3.same ∙ (ap (λ (x : WriterView). x.state.published) (sym held) ∙ sym published_is);
-          cuts = ap (λ (x : Publisher). x.cuts) seat.3.same ∙ (ap (λ (x : WriterView). x.cuts) (sym held) ∙ sym cuts_are);
+          published = ap (λ (x : WriterState). x.published) seat.3.same ∙ (ap (λ (x : WriterView). x.state.published) (sym held) ∙ sym published_is);
+          cuts = ap (λ (x : WriterState). x.cuts) seat.3.same ∙ (ap (λ (x : WriterView). x.cuts) (sym held) ∙ sym cuts_are);
         }
 
-    each_record : IsLawfulBoard h.begun.register.opening (known_after h) → (ps : List ReaderSeen) → All (SeatsReader s) ps
-        → AreRecords h.begun.register.opening (machine_of h).writer.published (auxiliary_of h).cuts (map (λ (p : ReaderSeen). p.readings) ps)
+    each_record : IsLawfulBoard h.origin.register.opening (known_after h) → (ps : List ReaderState) → All (SeatsReader s) ps
+        → AreRecords h.origin.register.opening (machine_of h).writer.published (auxiliary_of h).cuts (map (λ (p : ReaderState). p.readings) ps)
     each_record l [] seats = tt
     each_record l (p ∷ ps) seats = (
       (l.each_reader p.index (known_by p) (seat_there h s after p (seats 0 p (omega arith))).1).record_legal,
       each_record l ps (λ i d less. seats (suc i) d (omega arith)),
     )
 
-    pub tells : IsLawfulBoard h.begun.register.opening (known_after h) → KnowsAfter h (known_after h).writer → Tells h s
+    pub tells : IsLawfulBoard h.origin.register.opening (known_after h) → KnowsAfter h (known_after h).writer → Tells h s
     tells l knows =
         record {
           order = after.prefixes;
@@ -506,14 +506,14 @@ module _ (h : History) (k : IsLedger h.begun.register) where
               calls_known (number_of p) (is_readers (number_of p)) (by_reader p.index) p.history h knows.rest knows.whole_is (knows.readers p.index (p.opening, known_by p) (only_here p.index (p.opening, known_by p)));
           orders = λ b seat.
               let knows = after.prefixes seat.0 seat.1 seat.2 in
-              subst (λ (x : History). replies_to 0 h.begun (calls_in x) ≡ replies_to 0 h.begun (calls_in h)) (ap (λ (x : Publisher). x.history) (sym seat.3.same))
+              subst (λ (x : History). replies_to 0 h.origin (calls_in x) ≡ replies_to 0 h.origin (calls_in h)) (ap (λ (x : WriterState). x.history) (sym seat.3.same))
               (calls_known 0 is_writers by_writer seat.1.history h knows.rest knows.whole_is (knows.writer (b.ledger.opening, held_by seat.1) seat.3.writes));
           calls = record {
             writer = writes knows;
             readers = reads;
             records = λ ps seats.
-                let legal = state_records h.begun.register.opening (known_after h) l in
-                subst (λ (z : List Command × List ℕ). AreLegalRecords h.begun.register.opening z.0 z.1 (map (λ (p : ReaderSeen). p.readings) ps)) (λ i. (sym published_is i, sym cuts_are i))
+                let legal = state_records h.origin.register.opening (known_after h) l in
+                subst (λ (z : List Command × List ℕ). AreLegalRecords h.origin.register.opening z.0 z.1 (map (λ (p : ReaderState). p.readings) ps)) (λ i. (sym published_is i, sym cuts_are i))
                 record { legal = legal.legal; in_order = legal.in_order; readings = each_record l ps seats };
           };
           answers = answers_are;
@@ -521,18 +521,18 @@ module _ (h : History) (k : IsLedger h.begun.register) where
         }
 
 -- by the history by which the rule holds
-tells_of : (begun : ShareStart) (s : table.State Unit View) → IsLedger begun.register → (k : RuleHolds begun s) → Tells k.history s
-tells_of begun s ledger k =
-    let b = sym k.begun_is in
+tells_of : (origin : ShareStart) (s : table.State Unit View) → IsLedger origin.register → (k : RuleHolds origin s) → Tells k.history s
+tells_of origin s ledger k =
+    let b = sym k.same_origin in
     tells k.history (subst (λ (x : ShareStart). IsLedger x.register) b ledger) s k.after (subst (λ (x : ShareStart). IsLawfulBoard x.register.opening (known_after k.history)) b k.lawful) k.register
 
 pub told : TellsLaw
-told begun h s ledger by = subst (λ (x : History). Tells x s) by.1 (tells_of begun s ledger by.0)
+told origin h s ledger by = subst (λ (x : History). Tells x s) by.1 (tells_of origin s ledger by.0)
 
 pub headline : HeadlineLaw RuleHolds
-headline begun s ledger k = (k.history, k.begun_is, tells_of begun s ledger k)
+headline origin s ledger k = (k.history, k.same_origin, tells_of origin s ledger k)
 
 pub explained : CallsLaw RuleHolds
-explained begun s ledger k =
-    let h = headline begun s ledger k in
+explained origin s ledger k =
+    let h = headline origin s ledger k in
     (calls_in h.0, subst (λ (x : ShareStart). CallsTell x (calls_in h.0) s) h.1 h.2.calls)

@@ -1,8 +1,8 @@
 -- The headline over a register of one member: a history whose calls are computed, and what no calls and no history can tell.
 use Rattle.board_share.proofs.Names.{[], ap, arith, Arrived, AtRest, Busy, Command, false, first_history, get_elem?}
 use Rattle.board_share.proofs.Names.{held_by, History, history_with, HoldsBy, Leaving, List, MayBegin, Moved, none-some}
-use Rattle.board_share.proofs.Names.{number_of, Open, opening_view, Publish, Published, Publisher, Read, Reader}
-use Rattle.board_share.proofs.Names.{ReaderSeen, Reading, refl, replicate, seat_of_reader, seat_view, SeatsReader}
+use Rattle.board_share.proofs.Names.{number_of, Open, opening_view, Publish, Published, WriterState, Read, Reader}
+use Rattle.board_share.proofs.Names.{ReaderState, Reading, refl, replicate, seat_of_reader, seat_view, SeatsReader}
 use Rattle.board_share.proofs.Names.{SeatsWriter, ShareStart, Skipped, Some, some, some-injective, some-ne-none, Submit}
 use Rattle.board_share.proofs.Names.{suc, sym, true, View, Writer, zero, ℕ, ◌++◌, ◌∙◌, ◌∷◌, ◌≡◌, ◌≤◌}
 use Rattle.std.proofs.Common.{All}
@@ -17,7 +17,7 @@ use Rattle.two_copy_steps.specs.declared.events.Note.TheVariants.{Accepted, Refu
 use Rattle.board_share.specs.Headline.{CallsLaw, CallsTell, HeadlineLaw, IsAwaited, Made, ReadsFrom, Tells, TellsLaw, WritesTo, answers_in, calls_in, cuts_replied, fronts_after, published_in, replies_to}
 use Rattle.board_share.specs.Histories.{reported_in}
 use Rattle.board_share.specs.Laws.{ReaderStepLaw, WriterStepLaw}
-use Rattle.board_share.proofs.WorkedCases.{after_events, begun, both_done, having_read, none_done, one_done, one_member, seated, table as shared}
+use Rattle.board_share.proofs.WorkedCases.{after_events, origin, both_done, having_read, none_done, one_done, one_member, seated, table as shared}
 
 -- a reader loads side before a publication stores it, and reads the words after; then it reads once more
 abbrev overtaken : History
@@ -30,13 +30,13 @@ abbrev four_calls : List Made
 four_calls = (0, submit (Open 1)) ∷ (1, read) ∷ (0, publish) ∷ (1, read) ∷ []
 
 -- its readings are of none and of one of the commands; there are two cuts
-pub replies_overtaken : (replies_to 0 begun four_calls ≡ answered (answer.Accepted 1) ∷ answered (answer.Published 1) ∷ [])
-    × (replies_to 1 begun four_calls ≡ reading none_done ∷ reading one_done ∷ []) × (replies_to 2 begun four_calls ≡ [])
-    × (published_in begun four_calls ≡ Open 1 ∷ []) × (cuts_replied begun four_calls ≡ 0 ∷ 1 ∷ [])
+pub replies_overtaken : (replies_to 0 origin four_calls ≡ answered (answer.Accepted 1) ∷ answered (answer.Published 1) ∷ [])
+    × (replies_to 1 origin four_calls ≡ reading none_done ∷ reading one_done ∷ []) × (replies_to 2 origin four_calls ≡ [])
+    × (published_in origin four_calls ≡ Open 1 ∷ []) × (cuts_replied origin four_calls ≡ 0 ∷ 1 ∷ [])
 replies_overtaken = (refl, refl, refl, refl, refl)
 
 -- a register that begins with a command has published it
-pub begun_with_one : (let b : ShareStart = record begun { register = record begun.register { journal = Open 1 ∷ [] } } in
+pub begun_with_one : (let b : ShareStart = record origin { register = record origin.register { journal = Open 1 ∷ [] } } in
     (published_in b [] ≡ Open 1 ∷ []) × (cuts_replied b ((0, publish) ∷ []) ≡ 1 ∷ []) × (replies_to 3 b ((3, read) ∷ []) ≡ reading one_done ∷ []))
 begun_with_one = (refl, refl, refl)
 
@@ -78,7 +78,7 @@ with_record readings = table.opening [] [] (seat_view (having_read readings))
 its_seat : (readings : List (List ℕ)) → SeatsReader (with_record readings) (having_read readings)
 its_seat readings = (0, refl)
 
-all_one : (s : table.State Unit View) (p : ReaderSeen) → SeatsReader s p → All (SeatsReader s) (p ∷ [])
+all_one : (s : table.State Unit View) (p : ReaderState) → SeatsReader s p → All (SeatsReader s) (p ∷ [])
 all_one s p seat zero d less = seat
 all_one s p seat (suc k) d less = absurd (omega arith)
 
@@ -86,7 +86,7 @@ all_one s p seat (suc k) d less = absurd (omega arith)
 abbrev stepped : View
 stepped = seat_of_reader (after_events (Reader 1 ∷ [])) 0 (one_member, record { stage = AtRest; readings = [] })
 
-pub step_in_no_history : Tells (first_history begun) (table.opening [] [] stepped) → ⊥
+pub step_in_no_history : Tells (first_history origin) (table.opening [] [] stepped) → ⊥
 step_in_no_history h = no_item (sym (ap (λ (x : History). x.events) (h.order 0 stepped refl).whole_is))
 
 -- and a reader that was replied what the calls that it knows don't have
@@ -94,74 +94,74 @@ pub reply_unknown : Tells overtaken (with_record (none_done ∷ one_done ∷ [])
 reply_unknown h = no_item (sym (h.reads (having_read (none_done ∷ one_done ∷ [])) (its_seat (none_done ∷ one_done ∷ []))))
 
 -- the records: a reader that read an older version after a newer one, by any calls
-pub older_after_newer : (calls : List Made) → CallsTell begun calls (with_record (both_done ∷ none_done ∷ [])) → ⊥
+pub older_after_newer : (calls : List Made) → CallsTell origin calls (with_record (both_done ∷ none_done ∷ [])) → ⊥
 older_after_newer calls h =
     let readings : List (List ℕ) = both_done ∷ none_done ∷ [] in
     let falls : 2 ≤ 0 = (h.records (having_read readings ∷ []) (all_one (with_record readings) (having_read readings) (its_seat readings))).readings.0.2.1 in
     omega arith
 
 -- and one that read words of no cut
-pub sheet_of_no_cut : (calls : List Made) → CallsTell begun calls (with_record ([] ∷ [])) → ⊥
+pub sheet_of_no_cut : (calls : List Made) → CallsTell origin calls (with_record ([] ∷ [])) → ⊥
 sheet_of_no_cut calls h =
     let e = (h.records (having_read ([] ∷ []) ∷ []) (all_one (with_record ([] ∷ [])) (having_read ([] ∷ [])) (its_seat ([] ∷ [])))).readings.0.0.2 in
     no_item (sym e)
 
 -- a reading that was never called, though it is of a cut
-pub reading_uncalled : CallsTell begun [] (with_record (none_done ∷ [])) → ⊥
+pub reading_uncalled : CallsTell origin [] (with_record (none_done ∷ [])) → ⊥
 reading_uncalled h = no_item (sym (h.readers (having_read (none_done ∷ [])) (its_seat (none_done ∷ []))).replies)
 
 -- a reading that no event put out
-pub reading_from_nowhere : Tells (first_history begun) (with_record (none_done ∷ [])) → ⊥
+pub reading_from_nowhere : Tells (first_history origin) (with_record (none_done ∷ [])) → ⊥
 reading_from_nowhere h = no_item (h.sheets (having_read (none_done ∷ [])) (its_seat (none_done ∷ [])))
 
 -- a reading that was called and is lost, by a reader at rest
-pub reading_lost : ReadsFrom begun ((1, read) ∷ []) (having_read []) → ⊥
+pub reading_lost : ReadsFrom origin ((1, read) ∷ []) (having_read []) → ⊥
 reading_lost h = no_item (h.replies ∙ ap (map reading) h.is_due)
 
 -- a reader of other members
-pub other_members : (p : ReaderSeen) → (p.opening ≡ one_member → ⊥) → ReadsFrom begun [] p → ⊥
+pub other_members : (p : ReaderState) → (p.opening ≡ one_member → ⊥) → ReadsFrom origin [] p → ⊥
 other_members p other h = other h.opening
 
 -- a writer that has published one of two commands, by the calls that did it
 abbrev one_published : List Made
 one_published = (0, submit (Open 1)) ∷ (0, publish) ∷ []
 
-abbrev writer_of : List Command → List Command → List ℕ → Publisher
+abbrev writer_of : List Command → List Command → List ℕ → WriterState
 writer_of journal published cuts = record {
   table = shared;
-  ledger = record begun.register { journal = journal };
+  ledger = record origin.register { journal = journal };
   published = published;
   cuts = cuts;
   seen_out = false ∷ [];
-  history = first_history begun;
+  history = first_history origin;
 }
 
-pub writes_one : WritesTo begun one_published (writer_of seated (Open 1 ∷ []) (0 ∷ 1 ∷ []))
+pub writes_one : WritesTo origin one_published (writer_of seated (Open 1 ∷ []) (0 ∷ 1 ∷ []))
 writes_one = record { opening = refl; accepted = (Move (65 ∷ 65 ∷ 65 ∷ []) (Some 1) ∷ [], refl); published = refl; cuts = refl }
 
-pub published_less : WritesTo begun one_published (writer_of seated [] (0 ∷ 1 ∷ [])) → ⊥
+pub published_less : WritesTo origin one_published (writer_of seated [] (0 ∷ 1 ∷ [])) → ⊥
 published_less h = no_item (sym h.published)
 
-pub cut_missed : WritesTo begun one_published (writer_of seated (Open 1 ∷ []) (0 ∷ [])) → ⊥
+pub cut_missed : WritesTo origin one_published (writer_of seated (Open 1 ∷ []) (0 ∷ [])) → ⊥
 cut_missed h = let e = h.cuts in cc e
 
-pub accepted_less : WritesTo begun one_published (writer_of [] (Open 1 ∷ []) (0 ∷ 1 ∷ [])) → ⊥
+pub accepted_less : WritesTo origin one_published (writer_of [] (Open 1 ∷ []) (0 ∷ 1 ∷ [])) → ⊥
 accepted_less h = no_item (sym h.accepted.1)
 
-pub of_other_members : (b : Publisher) → (b.ledger.opening ≡ one_member → ⊥) → WritesTo begun one_published b → ⊥
+pub of_other_members : (b : WriterState) → (b.ledger.opening ≡ one_member → ⊥) → WritesTo origin one_published b → ⊥
 of_other_members b other h = other h.opening
 
 -- the seat with which a board begins is that of its writer, who may have accepted more; a reader's seat is that of no writer
 abbrev first_seat : table.State Unit View
-first_seat = table.opening [] [] (opening_view begun)
+first_seat = table.opening [] [] (opening_view origin)
 
-abbrev first_publisher : Publisher
-first_publisher = record (writer_of seated [] (0 ∷ [])) { seen_out = true ∷ [] }
+abbrev first_writer : WriterState
+first_writer = record (writer_of seated [] (0 ∷ [])) { seen_out = true ∷ [] }
 
-pub writer_seated : SeatsWriter first_seat first_publisher
-writer_seated = (0, opening_view begun, refl, record { writes = refl; staged = (seated, refl); same = refl })
+pub writer_seated : SeatsWriter first_seat first_writer
+writer_seated = (0, opening_view origin, refl, record { writes = refl; staged = (seated, refl); same = refl })
 
-pub reader_not_writer : (b : Publisher) → SeatsWriter (with_record []) b → ⊥
+pub reader_not_writer : (b : WriterState) → SeatsWriter (with_record []) b → ⊥
 reader_not_writer b seat = no_seat seat.0 seat.1 seat.2 seat.3.writes
   where
     no_seat : (id : ℕ) (v : View) → get_elem? (seat_view (having_read []) ∷ []) id ≡ some v → v.writer ≡ Some (b.ledger.opening, held_by v) → ⊥
@@ -169,43 +169,43 @@ reader_not_writer b seat = no_seat seat.0 seat.1 seat.2 seat.3.writes
     no_seat (suc id) v at writes = some-ne-none v (sym at)
 
 -- it has published nothing, so calls that publish don't tell what it knows, nor does a history with answers that it doesn't know
-pub published_unknown : CallsTell begun one_published first_seat → ⊥
-published_unknown h = no_item (sym (h.writer first_publisher writer_seated).published)
+pub published_unknown : CallsTell origin one_published first_seat → ⊥
+published_unknown h = no_item (sym (h.writer first_writer writer_seated).published)
 
 pub answers_unknown : Tells overtaken first_seat → ⊥
-answers_unknown h = no_item (sym (h.orders first_publisher writer_seated))
+answers_unknown h = no_item (sym (h.orders first_writer writer_seated))
 
 -- what the law gives of each seat, part by part
 module _ (h : History) (s : table.State Unit View) (tells : Tells h s) where
-  answers_are_replies : answers_in (reported_in h) ≡ replies_to 0 h.begun (calls_in h)
+  answers_are_replies : answers_in (reported_in h) ≡ replies_to 0 h.origin (calls_in h)
   answers_are_replies = tells.answers
 
-  reads_known : (p : ReaderSeen) → SeatsReader s p → replies_to (number_of p) h.begun (calls_in p.history) ≡ replies_to (number_of p) h.begun (calls_in h)
+  reads_known : (p : ReaderState) → SeatsReader s p → replies_to (number_of p) h.origin (calls_in p.history) ≡ replies_to (number_of p) h.origin (calls_in h)
   reads_known = tells.reads
 
-  orders_known : (b : Publisher) → SeatsWriter s b → replies_to 0 h.begun (calls_in b.history) ≡ replies_to 0 h.begun (calls_in h)
+  orders_known : (b : WriterState) → SeatsWriter s b → replies_to 0 h.origin (calls_in b.history) ≡ replies_to 0 h.origin (calls_in h)
   orders_known = tells.orders
 
-  writer_told : (b : Publisher) → SeatsWriter s b → WritesTo h.begun (calls_in h) b
+  writer_told : (b : WriterState) → SeatsWriter s b → WritesTo h.origin (calls_in h) b
   writer_told = tells.calls.writer
 
 -- the laws speak of this board
-module _ (holds : ShareStart → table.State Unit View → Type 0) (s : table.State Unit View) (ledger : IsLedger begun.register) (held : holds begun s) where
-  told_of_this_board : HeadlineLaw holds → (h : History) × (h.begun ≡ begun) × Tells h s
-  told_of_this_board law = law begun s ledger held
+module _ (holds : ShareStart → table.State Unit View → Type 0) (s : table.State Unit View) (ledger : IsLedger origin.register) (held : holds origin s) where
+  told_of_this_board : HeadlineLaw holds → (h : History) × (h.origin ≡ origin) × Tells h s
+  told_of_this_board law = law origin s ledger held
 
-  called_on_this_board : CallsLaw holds → (calls : List Made) × CallsTell begun calls s
-  called_on_this_board law = law begun s ledger held
+  called_on_this_board : CallsLaw holds → (calls : List Made) × CallsTell origin calls s
+  called_on_this_board law = law origin s ledger held
 
 -- and of this history; a step of a reader at rest adds one event and stores 1 in its pin
-module _ (h : History) (s : table.State Unit View) (by : HoldsBy begun h s) where
-  told_of_this_history : TellsLaw → IsLedger begun.register → Tells h s
-  told_of_this_history law ledger = law begun h s ledger by
+module _ (h : History) (s : table.State Unit View) (by : HoldsBy origin h s) where
+  told_of_this_history : TellsLaw → IsLedger origin.register → Tells h s
+  told_of_this_history law ledger = law origin h s ledger by
 
-  reader_arrives : ReaderStepLaw → get_elem? s.views 0 ≡ some (seat_view (having_read [])) → (next : table.State Unit View) × HoldsBy begun (history_with h (Reader 1 ∷ [])) next × (next.words ≡ slice_set s.words 69 1)
-  reader_arrives law seat = (_, law begun h s 0 (having_read []) by seat, refl)
+  reader_arrives : ReaderStepLaw → get_elem? s.views 0 ≡ some (seat_view (having_read [])) → (next : table.State Unit View) × HoldsBy origin (history_with h (Reader 1 ∷ [])) next × (next.words ≡ slice_set s.words 69 1)
+  reader_arrives law seat = (_, law origin h s 0 (having_read []) by seat, refl)
 
   -- the first step of a publication adds the commands, the beginning and the load of a pin
-  publication_begins : WriterStepLaw → get_elem? s.views 0 ≡ some (opening_view begun) → MayBegin (first_history begun) one_member (held_by (opening_view begun)) (Some seated)
-      → (next : table.State Unit View) × HoldsBy begun (history_with h (map Submit seated ++ Publish ∷ Writer ∷ [])) next
-  publication_begins law seat may = (_, law begun h s 0 (opening_view begun) one_member (held_by (opening_view begun)) (Some seated) by seat refl may)
+  publication_begins : WriterStepLaw → get_elem? s.views 0 ≡ some (opening_view origin) → MayBegin (first_history origin) one_member (held_by (opening_view origin)) (Some seated)
+      → (next : table.State Unit View) × HoldsBy origin (history_with h (map Submit seated ++ Publish ∷ Writer ∷ [])) next
+  publication_begins law seat may = (_, law origin h s 0 (opening_view origin) one_member (held_by (opening_view origin)) (Some seated) by seat refl may)

@@ -8,12 +8,13 @@ use Rattle.board_share.proofs.Names.{Some, Stage, stage_note, Submit, subst, suc
 use Rattle.board_share.proofs.Names.{ℕ, ◌++◌, ◌<◌, ◌∙◌, ◌∷◌, ◌≡◌, ◌≤◌}
 use Rattle.std.proofs.Common.{◌&&◌, is_ok, IsTrue, length-append}
 use Rattle.std.specs.Prelude.{⊤}
+use Rattle.std.specs.Result.{result_and}
 use Rattle.std.proofs.lemmas.Bool.{lt-ltb}
 use Rattle.council_core.specs.declared.refusals.Refusal.{Refusal}
 use Rattle.council_core.specs.declared.refusals.Refusal.TheVariants.{JournalFull}
 use Rattle.council_core.specs.Rolls.{Roll, opening_roll, fold_from, step, all_accepted}
 use Rattle.council_core.specs.Rolls as rolls
-use Rattle.council_core.specs.Ledgers.{roll_of, room_of, verdict, verdict_of, ledger_with}
+use Rattle.council_core.specs.Ledgers.{roll_of, room_of, verdict_of, ledger_with}
 use Rattle.two_copy_steps.specs.Actions.{writing_of_staged}
 use Rattle.two_copy_steps.specs.Lawful.{read_by, written_by, begun_by}
 use Rattle.two_copy_steps.specs.Transitions.{state_after_events, notes, machine_and_note, published_by, is_pending, reader_transition}
@@ -51,21 +52,21 @@ even_after : (events : List Event) (m : MachineState) (p : Auxiliary) → length
 even_after [] m p e = e
 even_after (event ∷ events) m p e = even_after events (transition m event).0 (auxiliary_step m p event) (even_transition m p e event)
 
-pub even_of : (h : History) → length (auxiliary_steps (machine_at_start h.begun.register h.begun.readers) (auxiliary_start h.begun.register h.begun.readers) h.events).records ≡ length (machine_of h).readers
+pub even_of : (h : History) → length (auxiliary_steps (machine_at_start h.origin.register h.origin.readers) (auxiliary_start h.origin.register h.origin.readers) h.events).records ≡ length (machine_of h).readers
 even_of h =
-    even_after h.events (machine_at_start h.begun.register h.begun.readers) (auxiliary_start h.begun.register h.begun.readers)
-    (length-replicate h.begun.readers [] ∙ sym (length-replicate h.begun.readers AtRest))
+    even_after h.events (machine_at_start h.origin.register h.origin.readers) (auxiliary_start h.origin.register h.origin.readers)
+    (length-replicate h.origin.readers [] ∙ sym (length-replicate h.origin.readers AtRest))
 
 abbrev pub auxiliary_of : History → Auxiliary
-auxiliary_of h = auxiliary_steps (machine_at_start h.begun.register h.begun.readers) (auxiliary_start h.begun.register h.begun.readers) h.events
+auxiliary_of h = auxiliary_steps (machine_at_start h.origin.register h.origin.readers) (auxiliary_start h.origin.register h.origin.readers) h.events
 
 -- what is known after a longer history
 pub machine_longer : (h : History) (events : List Event) → machine_of (history_with h events) ≡ state_after_events (machine_of h) events
-machine_longer h events = after_append h.events events (machine_at_start h.begun.register h.begun.readers)
+machine_longer h events = after_append h.events events (machine_at_start h.origin.register h.origin.readers)
 
 pub known_longer : (h : History) (events : List Event) → known_after (history_with h events) ≡ state_of (state_after_events (machine_of h) events) (auxiliary_steps (machine_of h) (auxiliary_of h) events)
 known_longer h events =
-    (λ i. state_of (machine_longer h events i) (auxiliary_append h.events events (machine_at_start h.begun.register h.begun.readers) (auxiliary_start h.begun.register h.begun.readers) i))
+    (λ i. state_of (machine_longer h events i) (auxiliary_append h.events events (machine_at_start h.origin.register h.origin.readers) (auxiliary_start h.origin.register h.origin.readers) i))
 
 -- the last item of a list with one more
 pub last_pushed : {A : Type 0} (o : Option A) (items : List A) (last : A) → last_or o (items ++ last ∷ []) ≡ Some last
@@ -74,7 +75,7 @@ last_pushed o (x ∷ items) last = last_pushed (Some x) items last
 
 pub reported_last : (h : History) (events : List Event) (event : Event) → last_reported (history_with h (events ++ event ∷ [])) ≡ Some (transition (state_after_events (machine_of h) events) event).1
 reported_last h events event =
-    let m = machine_at_start h.begun.register h.begun.readers in
+    let m = machine_at_start h.origin.register h.origin.readers in
     ap (λ (l : List Event). last_or None (notes m l)) (sym (append_assoc h.events events (event ∷ [])))
     ∙ (ap (last_or None) (notes_append (h.events ++ events) (event ∷ []) m)
     ∙ (last_pushed None (notes m (h.events ++ events)) (transition (state_after_events m (h.events ++ events)) event).1
@@ -127,7 +128,7 @@ accepted_there : (r : Roll) (commands : List Command) (command : Command) (rest 
 accepted_there r [] command rest h = and_left (is_ok (step r command)) _ h
 accepted_there r (c ∷ cs) command rest h = accepted_there (rolls.next_roll r c) cs command rest (and_right (is_ok (step r c)) _ h)
 
-verdict_is : (v : Result Roll Refusal) (room : Result ⊤ Refusal) → IsTrue (is_ok v) → verdict v room ≡ room
+verdict_is : (v : Result Roll Refusal) (room : Result ⊤ Refusal) → IsTrue (is_ok v) → result_and v room ≡ room
 verdict_is (Ok r) room h = refl
 verdict_is (Err why) room h = cc
 

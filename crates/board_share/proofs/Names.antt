@@ -7,13 +7,13 @@ pub use Rattle.board_share.specs.Histories.{KnowsAfter, last_reported, machine_o
 pub use Rattle.board_share.specs.Laws.{SeatsReader, SeatsWriter}
 pub use Rattle.board_share.specs.Openings.{IsSplitting, new_readers}
 pub use Rattle.board_share.specs.Readers.{IsLegalSheet, IsReader, known_by, new_reader, number_of, reader_at}
-pub use Rattle.board_share.specs.Readers.{ReaderSeen, seat_view, TookStep}
-pub use Rattle.board_share.specs.Rule.{first_reader, HoldsBy, KnowsPrefix, opening_view, RuleHolds, with_opening}
+pub use Rattle.board_share.specs.Readers.{ReaderState, seat_view, TookStep}
+pub use Rattle.board_share.specs.Rule.{first_reader, HoldsBy, KnowsPrefix, opening_view, RuleHolds}
 pub use Rattle.board_share.specs.Seats.{as_reader, as_writer, but_first, first_only, Part, part_at, seat_of_reader}
 pub use Rattle.board_share.specs.Seats.{Seated}
 pub use Rattle.board_share.specs.Steps.{bare_seat, IsStepOn, with_writer}
-pub use Rattle.board_share.specs.Writers.{due_at, held_by, IsWriter, look_count, MayBegin, publication_steps, Publisher}
-pub use Rattle.board_share.specs.Writers.{publisher_at, Publishing, TookTry, unseen_count, writer_or, WriterTook}
+pub use Rattle.board_share.specs.Writers.{due_at, held_by, IsWriter, look_count, MayBegin, publication_steps, WriterState}
+pub use Rattle.board_share.specs.Writers.{writer_at, Publishing, TookTry, not_quiescent, writer_or, WriterTook}
 pub use Rattle.board_share.specs.declared.views.History.{History}
 pub use Rattle.board_share.specs.declared.views.ShareStart.{ShareStart}
 pub use Rattle.board_share.specs.declared.views.View.{View}

@@ -4,7 +4,7 @@ use Rattle.board_share.proofs.Names.{COPY_WORDS, due_at, eqb, Event, false, Fill
 use Rattle.board_share.proofs.Names.{KnowsAfter, Ledger, length, List, MayBegin, Me, Moved, ne_eqb, None, none-some}
 use Rattle.board_share.proofs.Names.{Note, Opening, Option, Phase, phase_note, Published, Publishing, refl, replicate}
 use Rattle.board_share.proofs.Names.{Seeing, seeing_phase, set, sheet, slice_get, Some, subst, suc, Swapping, sym}
-use Rattle.board_share.proofs.Names.{TableId, take, true, unseen_count, View, with_writer, Writer, writer_or}
+use Rattle.board_share.proofs.Names.{TableId, take, true, not_quiescent, View, with_writer, Writer, writer_or}
 use Rattle.board_share.proofs.Names.{WriterTook, WriterView, Writing, zero, ℕ, ◌++◌, ◌+◌, ◌<◌, ◌∙◌, ◌∷◌, ◌≡◌}
 use Rattle.std.proofs.lemmas.List.{replicate-append-replicate}
 use Rattle.two_copy_steps.specs.Actions.{Action, first_false, writer_action, writing_with_quiescent, filling_phase}
@@ -44,17 +44,17 @@ all_there (false ∷ bs) q e h = absurd cc
 
 -- one more reader is quiescent
 pub unseen_set : (bs : List Bool) (r : ℕ) → slice_get bs r ≡ Some false
-    → unseen_count (set bs r true) + 1 ≡ unseen_count bs
+    → not_quiescent (set bs r true) + 1 ≡ not_quiescent bs
 unseen_set [] r e = absurd (none-some false e)
 unseen_set (true ∷ bs) zero e = absurd cc
-unseen_set (false ∷ bs) zero e = let out : unseen_count (true ∷ bs) ≡ unseen_count bs = refl in
-    let not_out : unseen_count (false ∷ bs) ≡ suc (unseen_count bs) = refl in omega arith
+unseen_set (false ∷ bs) zero e = let out : not_quiescent (true ∷ bs) ≡ not_quiescent bs = refl in
+    let not_out : not_quiescent (false ∷ bs) ≡ suc (not_quiescent bs) = refl in omega arith
 unseen_set (true ∷ bs) (suc r) e = unseen_set bs r e
 unseen_set (false ∷ bs) (suc r) e = let h = unseen_set bs r e in
-    let more : unseen_count (false ∷ set bs r true) ≡ suc (unseen_count (set bs r true)) = refl in
-    let not_out : unseen_count (false ∷ bs) ≡ suc (unseen_count bs) = refl in omega arith
+    let more : not_quiescent (false ∷ set bs r true) ≡ suc (not_quiescent (set bs r true)) = refl in
+    let not_out : not_quiescent (false ∷ bs) ≡ suc (not_quiescent bs) = refl in omega arith
 
-pub none_unseen : (bs : List Bool) → all_true bs ≡ true → unseen_count bs ≡ 0
+pub none_unseen : (bs : List Bool) → all_true bs ≡ true → not_quiescent bs ≡ 0
 none_unseen [] e = refl
 none_unseen (true ∷ bs) e = none_unseen bs e
 none_unseen (false ∷ bs) e = absurd cc

@@ -1,7 +1,7 @@
 -- What a reader's seat knows after a step.
 use Rattle.board_share.proofs.Names.{Allows, ap, arith, bare_seat, Bool, cond, COPY_WORDS, eq-eqb, History, IsKnown}
 use Rattle.board_share.proofs.Names.{IsReader, IsStepOn, known_by, Leaving, length, length-take-le, List, Me, ne_eqb}
-use Rattle.board_share.proofs.Names.{Opening, Part, reader_at, ReaderSeen, ReaderView, Reading, refl, RuleHolds}
+use Rattle.board_share.proofs.Names.{Opening, Part, reader_at, ReaderState, ReaderView, Reading, refl, RuleHolds}
 use Rattle.board_share.proofs.Names.{seat_of_reader, ShareStart, Some, Stage, stage_with_words, subst, suc, sym}
 use Rattle.board_share.proofs.Names.{TableId, take, TookStep, View, zero, ℕ, ◌<◌, ◌∙◌, ◌≡◌}
 use Rattle.std.proofs.lemmas.List.{take_all}
@@ -14,28 +14,28 @@ pub lone_in : (h : History) (r : ℕ) (x : Part) → part_in (seat_of_reader h r
 lone_in h zero x = refl
 lone_in h (suc r) x = lone_in h r x
 
-module _ (begun : ShareStart) (table seat : TableId) (me : Me Unit View) (p : ReaderSeen) (h : IsReader table seat me p) (slots id : ℕ) where
+module _ (origin : ShareStart) (table seat : TableId) (me : Me Unit View) (p : ReaderState) (h : IsReader table seat me p) (slots id : ℕ) where
   pub loads : (i : ℕ) → i ≡ (reader_action p.index (known_by p)).word → ((n : ℕ) → n ≡ (reader_action p.index (known_by p)).becomes n)
-      → Allows (RuleHolds begun) slots id me i (λ n. n) (IsStepOn me)
+      → Allows (RuleHolds origin) slots id me i (λ n. n) (IsStepOn me)
   loads i at_word becomes =
-      subst (λ (z : Me Unit View). Allows (RuleHolds begun) slots id z i (λ n. n) (IsStepOn z)) (sym h.alone)
-      (reads_allows begun slots id p.index p.history p.opening (known_by p) (load_of i) at_word record { becomes = becomes; leads = λ n. refl })
+      subst (λ (z : Me Unit View). Allows (RuleHolds origin) slots id z i (λ n. n) (IsStepOn z)) (sym h.alone)
+      (reads_allows origin slots id p.index p.history p.opening (known_by p) (load_of i) at_word record { becomes = becomes; leads = λ n. refl })
 
   pub stores : (i x : ℕ) → i ≡ (reader_action p.index (known_by p)).word → ((n : ℕ) → x ≡ (reader_action p.index (known_by p)).becomes n)
       → ((n : ℕ) → (reader_action p.index (known_by p)).after x ≡ (reader_action p.index (known_by p)).after n)
-      → Allows (RuleHolds begun) slots id me i (λ _. x) (λ _. IsStepOn me x)
+      → Allows (RuleHolds origin) slots id me i (λ _. x) (λ _. IsStepOn me x)
   stores i x at_word becomes alike =
-      subst (λ (z : Me Unit View). Allows (RuleHolds begun) slots id z i (λ _. x) (λ _. IsStepOn z x)) (sym h.alone)
-      (reads_allows begun slots id p.index p.history p.opening (known_by p) (store_of i x) at_word record { becomes = becomes; leads = alike })
+      subst (λ (z : Me Unit View). Allows (RuleHolds origin) slots id z i (λ _. x) (λ _. IsStepOn z x)) (sym h.alone)
+      (reads_allows origin slots id p.index p.history p.opening (known_by p) (store_of i x) at_word record { becomes = becomes; leads = alike })
 
 -- a reader's seat took its step: which seat it is now, what it knows, and how far the reader is
-pub record ReaderMoved (p : ReaderSeen) (seat seat' : TableId) (me me' : Me Unit View) (found : ℕ) (stage : Stage) : Type 0 where
+pub record ReaderMoved (p : ReaderState) (seat seat' : TableId) (me me' : Me Unit View) (found : ℕ) (stage : Stage) : Type 0 where
   pub same : seat' ≡ seat
   pub next : IsStepOn me found me'
   pub stage_is : stage ≡ ((reader_action p.index (known_by p)).after found).stage
 
 -- what a step leaves
-pub left : (table seat seat' : TableId) (me me' : Me Unit View) (p : ReaderSeen) (h : IsReader table seat me p) (found : ℕ) (stage : Stage) → ReaderMoved p seat seat' me me' found stage → Stepped table p seat' me' stage
+pub left : (table seat seat' : TableId) (me me' : Me Unit View) (p : ReaderState) (h : IsReader table seat me p) (found : ℕ) (stage : Stage) → ReaderMoved p seat seat' me me' found stage → Stepped table p seat' me' stage
 left table seat seat' me me' p h found stage moved =
     let w : ReaderView = (reader_action p.index (known_by p)).after found in
     let t = moved.next p.index p.opening (known_by p) p.history h.alone in
@@ -66,5 +66,5 @@ loaded_some side n ws e bound =
     ap (λ (b : Bool). cond b (Leaving side (take n ws)) (Reading side (take n ws)))
     (ne_eqb (length (take n ws)) COPY_WORDS (let short : length (take n ws) ≡ n = length-take-le n ws (omega arith) in (λ f. omega arith)))
 
-pub took_from : (table seat : TableId) (me : Me Unit View) (next : Stage) (p q : ReaderSeen) → p ≡ q → Stepped table p seat me next → TookStep q (reader_at table me.0 p.index next)
-took_from table seat me next p q e h = subst (λ (z : ReaderSeen). TookStep z (reader_at table me.0 p.index next)) e h.took
+pub took_from : (table seat : TableId) (me : Me Unit View) (next : Stage) (p q : ReaderState) → p ≡ q → Stepped table p seat me next → TookStep q (reader_at table me.0 p.index next)
+took_from table seat me next p q e h = subst (λ (z : ReaderState). TookStep z (reader_at table me.0 p.index next)) e h.took

@@ -1,7 +1,7 @@
 -- What a step, a publication that may begin and one that was abandoned say, part by part; and the seats of readers and writers.
 use Rattle.board_share.proofs.Names.{[], arith, Arrived, AtRest, bare_seat, Bool, Busy, Command, false, get_elem?}
 use Rattle.board_share.proofs.Names.{History, Idle, IsKnown, IsStepOn, last_reported, Ledger, length, List, Me, Moved}
-use Rattle.board_share.proofs.Names.{None, Opening, Publisher, publisher_at, ReaderSeen, ReaderView, refl}
+use Rattle.board_share.proofs.Names.{None, Opening, WriterState, writer_at, ReaderState, ReaderView, refl}
 use Rattle.board_share.proofs.Names.{seat_of_reader, seat_view, SeatsReader, SeatsWriter, Some, some, subst, suc}
 use Rattle.board_share.proofs.Names.{Swapping, sym, true, true≢false, View, with_writer, WriterView, ℕ, ◌∙◌, ◌∷◌, ◌≡◌}
 use Rattle.atomic_table.specs.Table as table
@@ -43,7 +43,7 @@ module _ (h : History) (opening : Opening) (v : WriterView) where
   in_a_publication : (list : List Command) → v.state.phase ≡ Swapping → MayPublish h opening v list → ⊥
   in_a_publication list swapping may = let is : Swapping ≡ Idle = sym swapping ∙ may.idle in cc is
 
-  above_the_limit : (list : List Command) → length list ≡ suc h.begun.register.limit → MayPublish h opening v list → ⊥
+  above_the_limit : (list : List Command) → length list ≡ suc h.origin.register.limit → MayPublish h opening v list → ⊥
   above_the_limit list long may = omega (arith, long, may.within)
 
   other_commands : v.state.staged ≡ Close 1 ∷ [] → MayPublish h opening v [] → ⊥
@@ -70,8 +70,8 @@ module _ (ledger : Ledger) (start me : Me Unit View) where
 
 -- the seats of a reader and of a writer are among the views
 module _ (s : table.State Unit View) where
-  reader_among : (p : ReaderSeen) → SeatsReader s p → (id : ℕ) × (get_elem? s.views id ≡ some (seat_view p))
+  reader_among : (p : ReaderState) → SeatsReader s p → (id : ℕ) × (get_elem? s.views id ≡ some (seat_view p))
   reader_among p seated = (seated.0, seated.1)
 
-  writer_among : (b : Publisher) → SeatsWriter s b → (id : ℕ) × (v : View) × (get_elem? s.views id ≡ some v) × (b ≡ publisher_at b.table b.ledger v)
+  writer_among : (b : WriterState) → SeatsWriter s b → (id : ℕ) × (v : View) × (get_elem? s.views id ≡ some v) × (b ≡ writer_at b.table b.ledger v)
   writer_among b seated = (seated.0, seated.1, seated.2, seated.3.same)

@@ -1,6 +1,6 @@
 -- A reading, step by step.
 use Rattle.board_share.proofs.Names.{[], ap, arith, Arrived, AtRest, Command, cond, eqb, false, IsLegalSheet, last_or}
-use Rattle.board_share.proofs.Names.{Leaving, List, None, none-some, Opening, Option, ReaderSeen, ReaderView, Reading}
+use Rattle.board_share.proofs.Names.{Leaving, List, None, none-some, Opening, Option, ReaderState, ReaderView, Reading}
 use Rattle.board_share.proofs.Names.{readings_after, refl, same_Some, sheet, Some, Stage, stage_action, subst, suc, sym}
 use Rattle.board_share.proofs.Names.{take, TookStep, true, zero, ℕ, ◌++◌, ◌+◌, ◌∙◌, ◌∷◌, ◌≡◌, ◌≤◌}
 use Rattle.std.proofs.Common.{length-take, IfSome}
@@ -18,7 +18,7 @@ use Rattle.board_share.specs.Readers.{HasLegalRecord, last_of}
 use Rattle.two_copy_steps.proofs.Face as stages
 
 -- the steps are counted one by one
-pub counted : (p p' : ReaderSeen) → TookStep p p' → IsReadable p.stage → steps_taken p'.stage ≡ cond (eqb (steps_taken p.stage) last_step) 0 (steps_taken p.stage + 1)
+pub counted : (p p' : ReaderState) → TookStep p p' → IsReadable p.stage → steps_taken p'.stage ≡ cond (eqb (steps_taken p.stage) last_step) 0 (steps_taken p.stage + 1)
 counted p p' t h = ap (λ (v : ReaderView). steps_taken v.stage) t.knows ∙ stages.counted p.index t.found p.stage h
 
 pub last_is : (readings before : List (List ℕ)) (words : List ℕ) → readings ≡ before ++ words ∷ [] → last_or None readings ≡ Some words
@@ -32,7 +32,7 @@ ended_at r Arrived found readings words e h = absurd (none-some words e)
 ended_at r (Reading s ws) found readings words e h = absurd (none-some words e)
 ended_at r (Leaving s ws) found readings words e h = (h.0, h.1 ∙ ap (λ (w : List ℕ). h.0 ++ w ∷ []) (same_Some ws words e))
 
-pub ended : (p p' : ReaderSeen) (answer : Option reading.Reading) → TookStep p p' → option_map (λ x. x.sheet) answer ≡ sheet_read p.stage → EndsWith p.readings p.stage
+pub ended : (p p' : ReaderState) (answer : Option reading.Reading) → TookStep p p' → option_map (λ x. x.sheet) answer ≡ sheet_read p.stage → EndsWith p.readings p.stage
     → IfSome answer (λ x. last_of p' ≡ Some x.sheet)
 ended p p' None t e h = tt
 ended p p' (Some x) t e h =
@@ -45,7 +45,7 @@ last_above opening list cuts low [] words h = h.1
 last_above opening list cuts low (x ∷ xs) words h = last_above opening list cuts (front_of x) xs words h.2
 
 -- the last sheet of a legal record has no lower front than the one before
-pub above : (p : ReaderSeen) (before : List (List ℕ)) (words : List ℕ) → HasLegalRecord p → p.readings ≡ before ++ words ∷ [] → last_front 0 before ≤ front_of words
+pub above : (p : ReaderState) (before : List (List ℕ)) (words : List ℕ) → HasLegalRecord p → p.readings ≡ before ++ words ∷ [] → last_front 0 before ≤ front_of words
 above p before words h e = last_above p.opening h.0 h.1 0 before words (subst (λ (x : List (List ℕ)). IsRecordFrom p.opening h.0 h.1 0 x) e h.2.readings.0)
 
 -- the first commands of a legal list are one
@@ -61,7 +61,7 @@ last_cut opening list cuts low [] words h = (h.0.0, h.0.2)
 last_cut opening list cuts low (x ∷ xs) words h = last_cut opening list cuts (front_of x) xs words h.2
 
 -- the last sheet of a legal record is that of a legal list
-pub last_legal : (p : ReaderSeen) (before : List (List ℕ)) (words : List ℕ) → HasLegalRecord p → p.readings ≡ before ++ words ∷ [] → IsLegalSheet p.opening words
+pub last_legal : (p : ReaderState) (before : List (List ℕ)) (words : List ℕ) → HasLegalRecord p → p.readings ≡ before ++ words ∷ [] → IsLegalSheet p.opening words
 last_legal p before words h e =
     let c = last_cut p.opening h.0 h.1 0 before words (subst (λ (x : List (List ℕ)). IsRecordFrom p.opening h.0 h.1 0 x) e h.2.readings.0) in
     let legal = h.2.legal in

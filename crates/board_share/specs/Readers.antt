@@ -30,7 +30,7 @@ use Rattle.board_share.specs.Steps.{bare_seat}
 -- the table of shared words that the reader reads, the members and votes of the opening, the
 -- reader's index, counted from 0, its stage, its readings so far, and the history of the board up
 -- to its last step
-pub record ReaderSeen : Type 0 where
+pub record ReaderState : Type 0 where
   pub table : TableId
   pub opening : Opening
   pub index : ℕ
@@ -38,46 +38,46 @@ pub record ReaderSeen : Type 0 where
   pub readings : List (List ℕ)
   pub history : History
 
-abbrev pub known_by : ReaderSeen → ReaderView
+abbrev pub known_by : ReaderState → ReaderView
 known_by p = record { stage = p.stage; readings = p.readings }
 
 -- a reader of a table with no readings
-abbrev pub new_reader : TableId → ShareStart → ℕ → ReaderSeen
-new_reader table begun r = record {
+abbrev pub new_reader : TableId → ShareStart → ℕ → ReaderState
+new_reader table origin r = record {
   table = table;
-  opening = begun.register.opening;
+  opening = origin.register.opening;
   index = r;
   stage = AtRest;
   readings = [];
-  history = first_history begun;
+  history = first_history origin;
 }
 
 -- the reader took one step of the machine, with some number found in its word
-pub record TookStep (before after : ReaderSeen) : Type 0 where
+pub record TookStep (before after : ReaderState) : Type 0 where
   pub found : ℕ
   pub knows : known_by after ≡ (reader_action before.index (known_by before)).after found
 
 -- the reader's number, counted from 1
-abbrev pub number_of : ReaderSeen → ℕ
+abbrev pub number_of : ReaderState → ℕ
 number_of p = suc p.index
 
 -- the reader added exactly `steps` steps to its history, and has the view of the machine's reader
 -- after them
-pub record TookSteps (steps : ℕ) (before after : ReaderSeen) : Type 0 where
+pub record TookSteps (steps : ℕ) (before after : ReaderState) : Type 0 where
   pub adds : Adds (is_readers (number_of before)) (replicate steps (Reader (number_of before))) before.history
       after.history
   pub knows : slice_get (known_after after.history).readers after.index ≡ Some (known_by after)
 
 -- the last output in the reader's history is that it ended a reading with these words
-abbrev pub WasReported : ReaderSeen → List ℕ → Type 0
+abbrev pub WasReported : ReaderState → List ℕ → Type 0
 WasReported p words = last_reported p.history ≡ Some (Read (number_of p) words)
 
 -- the sheet that the reader read last, if any
-abbrev pub last_of : ReaderSeen → Option (List ℕ)
+abbrev pub last_of : ReaderState → Option (List ℕ)
 last_of p = last_or None p.readings
 
 -- the front of the sheet that the reader read last, or 0 if there is none
-abbrev pub last_front_of : ReaderSeen → ℕ
+abbrev pub last_front_of : ReaderState → ℕ
 last_front_of p = last_front 0 p.readings
 
 -- sheets that one reader can read of some legal list of commands and its cuts: each is the sheet of
@@ -87,7 +87,7 @@ IsLegalRecord opening sheets =
     (list : List Command) × (cuts : List ℕ) × AreLegalRecords opening list cuts (sheets ∷ [])
 
 -- the readings are a legal record
-abbrev pub HasLegalRecord : ReaderSeen → Type 0
+abbrev pub HasLegalRecord : ReaderState → Type 0
 HasLegalRecord p = IsLegalRecord p.opening p.readings
 
 -- the sheet after some legal list of commands
@@ -99,7 +99,7 @@ abbrev pub part_in : View → ℕ → Part
 part_in v r = unwrap_or (as_reader r v) ([], first_reader)
 
 -- a reader, from its table, the view of its seat, its index and its stage
-abbrev pub reader_at : TableId → View → ℕ → Stage → ReaderSeen
+abbrev pub reader_at : TableId → View → ℕ → Stage → ReaderState
 reader_at table v r stage = record {
   table = table;
   opening = (part_in v r).0;
@@ -110,11 +110,11 @@ reader_at table v r stage = record {
 }
 
 -- the view of a reader's seat
-abbrev pub seat_view : ReaderSeen → View
+abbrev pub seat_view : ReaderState → View
 seat_view p = seat_of_reader p.history p.index (p.opening, known_by p)
 
 -- a seat of the table is that of this reader alone
-pub record IsReader (table seat : TableId) (me : Me Unit View) (p : ReaderSeen) : Type 0 where
+pub record IsReader (table seat : TableId) (me : Me Unit View) (p : ReaderState) : Type 0 where
   pub same : seat ≡ table
   pub within : pin p.index < table.words
   pub bound : p.index < READERS
@@ -122,7 +122,7 @@ pub record IsReader (table seat : TableId) (me : Me Unit View) (p : ReaderSeen) 
   pub known : IsKnown p.opening (known_by p)
 
 -- after one step the seat is that of the same reader, at this stage
-pub record Stepped (table : TableId) (p : ReaderSeen) (seat : TableId) (me : Me Unit View) (stage : Stage)
+pub record Stepped (table : TableId) (p : ReaderState) (seat : TableId) (me : Me Unit View) (stage : Stage)
     : Type 0 where
   pub seat_is : IsReader table seat me (reader_at table me.0 p.index stage)
   pub opening_is : (reader_at table me.0 p.index stage).opening ≡ p.opening
@@ -132,7 +132,7 @@ pub record Stepped (table : TableId) (p : ReaderSeen) (seat : TableId) (me : Me 
 
 -- after a whole reading the seat is that of the same reader at the same stage, and its record has
 -- one more sheet
-pub record HasRead (table : TableId) (p : ReaderSeen) (seat : TableId) (me : Me Unit View) (words : List ℕ)
+pub record HasRead (table : TableId) (p : ReaderState) (seat : TableId) (me : Me Unit View) (words : List ℕ)
     : Type 0 where
   pub seat_is : IsReader table seat me (reader_at table me.0 p.index p.stage)
   pub opening_is : (reader_at table me.0 p.index p.stage).opening ≡ p.opening

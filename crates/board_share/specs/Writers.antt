@@ -45,7 +45,7 @@ held_by v = (writer_or v.writer).1
 pub record MayPublish (h : History) (opening : Opening) (v : WriterView) (list : List Command) : Type 0 where
   pub idle : v.state.phase ≡ Idle
   pub publishable : IsPublishable opening list
-  pub within : length list ≤ h.begun.register.limit
+  pub within : length list ≤ h.origin.register.limit
   pub extends : IsPrefix v.state.staged list
   pub more : length v.state.published < length list
 
@@ -69,7 +69,7 @@ pub record IsWriter (table seat : TableId) (me : Me Unit View) (ledger : Ledger)
   pub out_is : (held_by me.0).state.seen_out ≡ seen_out
   pub staged_begins : IsPrefix (held_by me.0).state.staged ledger.journal
   pub published_begins : IsPrefix (held_by me.0).state.published ledger.journal
-  pub ledger_is : ledger ≡ record me.0.history.begun.register { journal = ledger.journal }
+  pub ledger_is : ledger ≡ record me.0.history.origin.register { journal = ledger.journal }
   pub knows : KnowsAfter me.0.history (held_by me.0)
 
 -- the next step of the writer's seat; it begins a publication of these commands, if any
@@ -94,18 +94,18 @@ pub record SeatStepped (list : Option (List Command)) (found : ℕ) (seat seat' 
   pub acted : WriterActed list found me.0.history me'.0.history (writer_or me.0.writer).1 (writer_or me'.0.writer).1
 
 -- the number of readers that are not quiescent
-abbrev pub unseen_count : List Bool → ℕ
-unseen_count seen_out = length (filter not seen_out)
+abbrev pub not_quiescent : List Bool → ℕ
+not_quiescent seen_out = length (filter not seen_out)
 
 -- the steps of a publication: a load of the pin of each reader that is not quiescent, a store of
 -- each word, and a store of side
 abbrev pub publication_steps : List Bool → ℕ
-publication_steps seen_out = unseen_count seen_out + (COPY_WORDS + 1)
+publication_steps seen_out = not_quiescent seen_out + (COPY_WORDS + 1)
 
 -- the steps of an abandoned publication: a load for each reader that it found quiescent, and one
 -- for the blocking reader
 abbrev pub look_count : List Bool → List Bool → ℕ
-look_count before after = unseen_count before - unseen_count after + 1
+look_count before after = not_quiescent before - not_quiescent after + 1
 
 -- the commands of the publication that begins with the next step of the writer's seat, unless one is
 -- in progress
@@ -190,7 +190,7 @@ pub record GaveUp (ledger : Ledger) (start me : Me Unit View) (before after : Li
 -- the state of a `Writer`, whose calls are whole: the table of shared words that it writes, its
 -- register, the published commands, the lengths of the lists published so far, the quiescent
 -- readers, and the history of the board up to its last step
-pub record Publisher : Type 0 where
+pub record WriterState : Type 0 where
   pub table : TableId
   pub ledger : Ledger
   pub published : List Command
@@ -199,8 +199,8 @@ pub record Publisher : Type 0 where
   pub history : History
 
 -- the state of a writer with this table, register and view of its seat
-abbrev pub publisher_at : TableId → Ledger → View → Publisher
-publisher_at table ledger v = record {
+abbrev pub writer_at : TableId → Ledger → View → WriterState
+writer_at table ledger v = record {
   table = table;
   ledger = ledger;
   published = (held_by v).state.published;
@@ -211,13 +211,13 @@ publisher_at table ledger v = record {
 
 -- a view is that of this writer's seat, and the commands staged there are the first that the writer
 -- has accepted
-pub record IsViewOf (b : Publisher) (v : View) : Type 0 where
+pub record IsViewOf (b : WriterState) (v : View) : Type 0 where
   pub writes : v.writer ≡ Some (b.ledger.opening, held_by v)
   pub staged : IsPrefix (held_by v).state.staged b.ledger.journal
-  pub same : b ≡ publisher_at b.table b.ledger v
+  pub same : b ≡ writer_at b.table b.ledger v
 
 -- more commands are accepted than published
-abbrev pub has_pending : Publisher → Bool
+abbrev pub has_pending : WriterState → Bool
 has_pending b = nat_lt (length b.published) (length b.ledger.journal)
 
 -- the events of a publication that begins after a history with this journal and takes `steps` steps
@@ -226,23 +226,23 @@ publication h journal steps = handed_over (machine_of h).ledger.journal journal 
 
 -- one publication was begun, and completed or abandoned, in `steps` steps; the rest of the writer's
 -- state agrees with the machine's writer after them
-pub record TookTry (steps : ℕ) (before after : Publisher) : Type 0 where
+pub record TookTry (steps : ℕ) (before after : WriterState) : Type 0 where
   pub adds : Adds is_writers (publication before.history before.ledger.journal steps) before.history after.history
   pub published : after.published ≡ (known_after after.history).writer.state.published
   pub cuts : after.cuts ≡ (known_after after.history).writer.cuts
   pub seen_out : after.seen_out ≡ (known_after after.history).writer.state.seen_out
 
 -- one publication was completed after this number of abandoned attempts
-abbrev pub TookTries : ℕ → Publisher → Publisher → Type 0
+abbrev pub TookTries : ℕ → WriterState → WriterState → Type 0
 TookTries zero before after = TookTry (publication_steps before.seen_out) before after
 TookTries (suc tries) before after =
-    (between : Publisher) × TookTry (look_count before.seen_out between.seen_out) before between
+    (between : WriterState) × TookTry (look_count before.seen_out between.seen_out) before between
     × (between.ledger ≡ before.ledger) × TookTries tries between after
 
 -- the cuts after a publication: one more if a command was pending
-abbrev pub cuts_after : Publisher → List ℕ
+abbrev pub cuts_after : WriterState → List ℕ
 cuts_after b = if has_pending b then b.cuts ++ length b.ledger.journal ∷ [] else b.cuts
 
 -- the quiescent readers after a publication: none if a command was pending
-abbrev pub seen_out_after : Publisher → List Bool
+abbrev pub seen_out_after : WriterState → List Bool
 seen_out_after b = if has_pending b then replicate (length b.seen_out) false else b.seen_out

@@ -24,11 +24,11 @@ pub struct Analyst {
 }
 
 impl Model for Analyst {
-    ghost use Rattle.board_share.specs.Analysts.{AnalystSeen};
+    ghost use Rattle.board_share.specs.Analysts.{AnalystState};
     ghost use Rattle.two_copy_steps.specs.declared.views.Stage.TheVariants.{AtRest};
     ghost use Rattle.std.specs.Prelude.{◌≡◌};
 
-    ghost Value = { AnalystSeen };
+    ghost Value = { AnalystState };
 
     ghost view = { λ a. record { reader = a.reader; sheet = a.evaluator } };
 
@@ -83,7 +83,7 @@ impl Analyst {
         ensures reported { WasReported self.new.reader self.new.sheet }
     {
         let reading = self.reader.read();
-        let _halves = self.evaluator.set(&reading.sheet);
+        let _changed = self.evaluator.set(&reading.sheet);
         self.evaluator.evaluate(majority)
     }
 

@@ -3,7 +3,7 @@ ghost use Rattle.std.specs.Prelude.{◌≡◌, ◌-◌, ◌≤◌, IfOk, IfErr, 
 ghost use Rattle.std.specs.Arc.{arc_value};
 ghost use Rattle.council_core.specs.declared.refusals.Refusal.TheVariants.{OutOfMemory, BadLimit};
 ghost use Rattle.two_copy_steps.specs.Machines.{IsFew};
-ghost use Rattle.board_share.specs.Openings.{IsSplitting, share_start, new_readers, new_publisher};
+ghost use Rattle.board_share.specs.Openings.{IsSplitting, share_start, new_readers, new_writer};
 
 use crate::readers::Reader;
 use crate::rule::{Board, SplitOff};
@@ -38,7 +38,7 @@ pub fn start(
     readers: u8,
 ) -> Result<(Writer, Vec<Reader>), (Register, Refusal)>
     ensures in_range { OnOk result (IsFew readers) }
-    ensures writer { IfOk result (λ b. b.0 ≡ new_publisher b.0.table register readers) }
+    ensures writer { IfOk result (λ b. b.0 ≡ new_writer b.0.table register readers) }
     ensures readers { IfOk result (λ b. b.1.items ≡ new_readers b.0.table (share_start register readers) readers) }
     ensures returned { IfErr result (λ e. e.0 ≡ register) }
     ensures limit { IfErr result (λ e. (IsFew readers → ⊥) → e.1 ≡ BadLimit) }
@@ -47,14 +47,14 @@ pub fn start(
     if readers == 0 || READERS < readers as usize {
         return Err((register, Refusal::BadLimit));
     }
-    let begun = ShareStart { register, readers };
-    match seat_all(alloc, &begun) {
+    let origin = ShareStart { register, readers };
+    match seat_all(alloc, &origin) {
         Ok((board, seat, all)) => {
-            let ShareStart { register, .. } = begun;
+            let ShareStart { register, .. } = origin;
             Ok((Writer::new(board, seat, register, readers), all))
         }
         Err(_) => {
-            let ShareStart { register, .. } = begun;
+            let ShareStart { register, .. } = origin;
             Err((register, Refusal::OutOfMemory))
         }
     }
@@ -63,31 +63,31 @@ pub fn start(
 // The shared words, the writer's seat and the readers.
 fn seat_all(
     alloc: Global,
-    begun: &ShareStart,
+    origin: &ShareStart,
 ) -> Result<(Arc<Board>, Seat<(), View>, Vec<Reader>), AllocError>
-    requires bound { begun.now.readers ≤ READERS }
+    requires bound { origin.now.readers ≤ READERS }
     ensures writer { IfOk result
-        (λ b. IsSplitting begun.now (arc_value b.0).shared.table_id b.1.table_id b.1.me begun.now.readers 0) }
+        (λ b. IsSplitting origin.now (arc_value b.0).shared.table_id b.1.table_id b.1.me origin.now.readers 0) }
     ensures readers { IfOk result
-        (λ b. b.2.items ≡ new_readers (arc_value b.0).shared.table_id begun.now begun.now.readers) }
+        (λ b. b.2.items ≡ new_readers (arc_value b.0).shared.table_id origin.now origin.now.readers) }
 {
-    let (board, mut seat) = build_board(alloc, begun)?;
-    let readers = seat_readers(alloc, &board, &mut seat, begun)?;
+    let (board, mut seat) = build_board(alloc, origin)?;
+    let readers = seat_readers(alloc, &board, &mut seat, origin)?;
     Ok((board, seat, readers))
 }
 
 // The shared words, and one seat for the writer and all readers.
 fn build_board(
     alloc: Global,
-    begun: &ShareStart,
+    origin: &ShareStart,
 ) -> Result<(Arc<Board>, Seat<(), View>), AllocError>
-    requires bound { begun.now.readers ≤ READERS }
+    requires bound { origin.now.readers ≤ READERS }
     ensures laid { IfOk result
-        (λ b. IsSplitting begun.now (arc_value b.0).shared.table_id b.1.table_id b.1.me 0 begun.now.readers) }
+        (λ b. IsSplitting origin.now (arc_value b.0).shared.table_id b.1.table_id b.1.me 0 origin.now.readers) }
 {
-    let sheet = begun.register.sheet();
-    let words = two_copy_steps::Table::start(&sheet.words(), begun.readers);
-    let (table, seat) = Table::of_words(alloc, words.as_slice(), begun)?;
+    let sheet = origin.register.sheet();
+    let words = two_copy_steps::Table::start(&sheet.words(), origin.readers);
+    let (table, seat) = Table::of_words(alloc, words.as_slice(), origin)?;
     Ok((Arc::new(alloc, table)?, seat))
 }
 
@@ -96,19 +96,19 @@ fn seat_readers(
     alloc: Global,
     board: &Arc<Board>,
     seat: &mut Seat<(), View>,
-    begun: &ShareStart,
+    origin: &ShareStart,
 ) -> Result<Vec<Reader>, AllocError>
-    requires bound { begun.now.readers ≤ READERS }
-    requires whole { IsSplitting begun.now (arc_value board.now).shared.table_id seat.old.table_id seat.old.me 0
-        begun.now.readers }
+    requires bound { origin.now.readers ≤ READERS }
+    requires whole { IsSplitting origin.now (arc_value board.now).shared.table_id seat.old.table_id seat.old.me 0
+        origin.now.readers }
     ensures writer { OnOk result
-        (IsSplitting begun.now (arc_value board.now).shared.table_id seat.new.table_id seat.new.me begun.now.readers
+        (IsSplitting origin.now (arc_value board.now).shared.table_id seat.new.table_id seat.new.me origin.now.readers
         0) }
     ensures readers { IfOk result
-        (λ all. all.items ≡ new_readers (arc_value board.now).shared.table_id begun.now begun.now.readers) }
+        (λ all. all.items ≡ new_readers (arc_value board.now).shared.table_id origin.now origin.now.readers) }
 {
-    let mut all = Vec::with_capacity(alloc, begun.readers as usize)?;
-    for r in 0..begun.readers {
+    let mut all = Vec::with_capacity(alloc, origin.readers as usize)?;
+    for r in 0..origin.readers {
         let mine = board.shared.split_seat::<SplitOff>(seat);
         all.push_reserved(Reader::new(Arc::try_clone(board)?, mine, r));
     }

@@ -38,11 +38,11 @@ pub struct Reader {
 }
 
 impl Model for Reader {
-    ghost use Rattle.board_share.specs.Readers.{ReaderSeen, IsReader, reader_at};
+    ghost use Rattle.board_share.specs.Readers.{ReaderState, IsReader, reader_at};
     ghost use Rattle.std.specs.Option.{option_map};
     ghost use Rattle.std.specs.Arc.{arc_value};
 
-    ghost Value = { ReaderSeen };
+    ghost Value = { ReaderState };
 
     ghost view = { λ r. reader_at (arc_value r.board).shared.table_id r.seat.me.0 r.index r.stage };
 

@@ -14,7 +14,7 @@ ghost use Rattle.two_copy_steps.specs.Lawful.{IsPrefix};
 ghost use Rattle.two_copy_steps.specs.Publications.{StaySeen, seen_out_at};
 ghost use Rattle.board_share.specs.Histories.{last_reported};
 ghost use Rattle.board_share.specs.Writers.{IsWriter, TookTries, TookTry, cuts_after, has_pending, look_count};
-ghost use Rattle.board_share.specs.Writers.{publication_steps, publisher_at, seen_out_after};
+ghost use Rattle.board_share.specs.Writers.{publication_steps, writer_at, seen_out_after};
 
 use crate::rule::Board;
 use crate::views::View;
@@ -49,13 +49,13 @@ pub struct Writer {
 }
 
 impl Model for Writer {
-    ghost use Rattle.board_share.specs.Writers.{Publisher, IsWriter, held_by, publisher_at};
+    ghost use Rattle.board_share.specs.Writers.{WriterState, IsWriter, held_by, writer_at};
     ghost use Rattle.std.specs.Arc.{arc_value};
     ghost use Rattle.std.specs.Prelude.{◌≡◌, length};
 
-    ghost Value = { Publisher };
+    ghost Value = { WriterState };
 
-    ghost view = { λ w. publisher_at (arc_value w.board).shared.table_id w.register w.seat.me.0 };
+    ghost view = { λ w. writer_at (arc_value w.board).shared.table_id w.register w.seat.me.0 };
 
     ghost invariant = { λ w. IsWriter (arc_value w.board).shared.table_id w.seat.table_id w.seat.me w.register w.side
         w.seen_out × (w.published ≡ length (held_by w.seat.me.0).state.published) };
@@ -78,9 +78,9 @@ impl Writer {
         requires bound { readers ≤ READERS }
         requires seat { IsWriter (arc_value board).shared.table_id seat.table_id seat.me register 0
             (replicate readers true) }
-        requires published { (publisher_at (arc_value board).shared.table_id register seat.me.0).published
+        requires published { (writer_at (arc_value board).shared.table_id register seat.me.0).published
             ≡ register.journal }
-        ensures { result ≡ publisher_at (arc_value board).shared.table_id register seat.me.0 }
+        ensures { result ≡ writer_at (arc_value board).shared.table_id register seat.me.0 }
     {
         Writer {
             board,

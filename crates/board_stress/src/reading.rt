@@ -57,7 +57,7 @@ fn by_an_analyst(
     let indices = analyst.ask(majority);
     let sheet = analyst.sheet();
     let mut evaluator = Evaluator::new(alloc)?;
-    let _halves = evaluator.set(&sheet);
+    let _changed = evaluator.set(&sheet);
     if indices != evaluator.evaluate(majority) {
         return Err(Refusal::Mismatch);
     }

@@ -4,7 +4,7 @@ use Rattle.std.proofs.KnownBytes.{Appends-nil}
 use Rattle.csv.specs.Reading.{default_config, records, strip_bom}
 use Rattle.recording_io.specs.Tapes.{ReaderRecord, OfInput}
 use Rattle.board_text.specs.Lines.{LineBytes}
-use Rattle.board_text.specs.Text.{Started, started_of, started_after, in_range, opened_of}
+use Rattle.board_text.specs.Text.{Started, started_of, started_after, in_range, preamble_of}
 use Rattle.board_text.specs.Scripts.{Course, started_course, run_in}
 use Rattle.board_text.specs.Output.{AppendsLines, Fails, WritesUntilStop}
 use Rattle.board_text.specs.declared.bounds.Limits.{Limits}
@@ -21,7 +21,7 @@ fails-stop : (a : Option (List ℕ)) (e : Stop) {S : Type 0} (interpret : Starte
 fails-stop a stop.OutOfMemory interpret spec p = nothing-written a _
 fails-stop a stop.ReadFault interpret spec p = nothing-written a _
 fails-stop a stop.WriteFault interpret spec p = absurd p
-fails-stop a (stop.Input f) interpret spec p = rw p (refl, Appends-nil a)
+fails-stop a (stop.Fault f) interpret spec p = rw p (refl, Appends-nil a)
 
 -- where nothing came of the input, nothing was written
 pub writes-failed : (a : Option (List ℕ)) (e d : Stop) {S : Type 0} (interpret : Started → Course S) (spec : Result Started Fault) → d ≡ e → Fails e spec → WritesUntilStop a a d (run_in (started_course interpret spec))
@@ -41,5 +41,5 @@ pub record TextRead (lim : Limits) (text : List ℕ) : Type 0 where
 
 -- the text that was read is the input
 pub start-input : (from to : ReaderRecord) (lim : Limits) (text : List ℕ) (read : TextRead lim text) → OfInput from to (λ bytes. read.input ≡ bytes)
-    → OfInput from to (λ bytes. started_of lim bytes ≡ started_after lim (opened_of (records default_config (strip_bom text))))
+    → OfInput from to (λ bytes. started_of lim bytes ≡ started_after lim (preamble_of (records default_config (strip_bom text))))
 start-input from to lim text read whole = λ bytes is. rw (← whole bytes is, read.same) (start-records lim read.input read.fits read.short)

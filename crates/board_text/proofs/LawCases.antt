@@ -12,7 +12,7 @@ use Rattle.board_text.specs.Laws.{InputLaw, IsReading, MajorityLaw, MemberLaw, N
 use Rattle.board_text.specs.Lines.{reading_lines}
 use Rattle.board_text.specs.Numbers.{number_of_digits}
 use Rattle.board_text.specs.Requests.{member_of, request_of, submission}
-use Rattle.board_text.specs.Text.{fault_at, opened_of, opening_of}
+use Rattle.board_text.specs.Text.{fault_at, preamble_of, preamble_after_header}
 use Rattle.majority_rule.specs.Majorities.{majority_of}
 use Rattle.board_text.specs.Writing.{Field, IsCommand, IsMember, IsRequest, written_rows, member_row, request_row, row_text, rows_text}
 use Rattle.board_text.specs.declared.requests.Request.TheVariants as ask
@@ -71,17 +71,17 @@ member_law_used law = law (65 ∷ 65 ∷ 65 ∷ [], 49) (refl, omega arith) (pla
 abbrev small_input : List (List Field)
 small_input = (plain (codes "member") ∷ quoted (codes "votes") ∷ []) ∷ (quoted (codes "AAA") ∷ plain (codes "7") ∷ []) ∷ (quoted (codes "script") ∷ []) ∷ (plain (codes "open") ∷ quoted (codes "1") ∷ []) ∷ []
 
-input_law_used : InputLaw → opened_of (records default_config (strip_bom (codes "member,\"votes\"\n\"AAA\",7\n\"script\"\nopen,\"1\"\n"))) ≡ Ok ((codes "AAA", 7) ∷ [], 4, (codes "open" ∷ codes "1" ∷ []) ∷ [])
+input_law_used : InputLaw → preamble_of (records default_config (strip_bom (codes "member,\"votes\"\n\"AAA\",7\n\"script\"\nopen,\"1\"\n"))) ≡ Ok ((codes "AAA", 7) ∷ [], 4, (codes "open" ∷ codes "1" ∷ []) ∷ [])
 unfolding digits
 input_law_used law = law ((codes "AAA", 7) ∷ []) (submission (Open 1) ∷ []) small_input (search rules) (search rules) (omega arith) refl
 
 -- of 257 members the last is too many, and a member out of range is none
-member_too_many : opened_of (written_rows (replicate 257 (codes "AAA", 1)) []) ≡ Err (fault_at TooManyMembers 0)
-unfolding digits opening_of
+member_too_many : preamble_of (written_rows (replicate 257 (codes "AAA", 1)) []) ≡ Err (fault_at TooManyMembers 0)
+unfolding digits preamble_after_header
 member_too_many = refl
 
-member_out_of_range : opened_of (written_rows ((codes "AAA", 2 ^ 40 + 1) ∷ []) []) ≡ Err (fault_at BadRecord 2)
-unfolding digits opening_of
+member_out_of_range : preamble_of (written_rows ((codes "AAA", 2 ^ 40 + 1) ∷ []) []) ≡ Err (fault_at BadRecord 2)
+unfolding digits preamble_after_header
 member_out_of_range = refl
 
 rows_of_an_input : written_rows ((codes "AAA", 7) ∷ []) ((codes "publish" ∷ []) ∷ []) ≡ (codes "member" ∷ codes "votes" ∷ []) ∷ (codes "AAA" ∷ codes "7" ∷ []) ∷ (codes "script" ∷ []) ∷ (codes "publish" ∷ []) ∷ []

@@ -12,7 +12,6 @@ mod RecordFacts
 mod InterpretFacts
 mod NumberFacts
 mod DigitFacts
-mod WordFacts
 mod WritingFacts
 mod RequestFacts
 mod LineFacts

@@ -74,10 +74,10 @@ unfolding digits
 outputs = (refl, refl)
 
 -- what becomes of each stop
-faults_of_stops : (fault_of stop.OutOfMemory ≡ Some (fault_at OutOfMemory 0)) × (fault_of stop.ReadFault ≡ Some (fault_at ReadFault 0)) × (fault_of stop.WriteFault ≡ None) × (fault_of (stop.Input (fault_at BadRecord 5)) ≡ Some (fault_at BadRecord 5))
+faults_of_stops : (fault_of stop.OutOfMemory ≡ Some (fault_at OutOfMemory 0)) × (fault_of stop.ReadFault ≡ Some (fault_at ReadFault 0)) × (fault_of stop.WriteFault ≡ None) × (fault_of (stop.Fault (fault_at BadRecord 5)) ≡ Some (fault_at BadRecord 5))
 faults_of_stops = (refl, refl, refl, refl)
 
-stops_of_refusals : (stop_of OutOfMemory ≡ stop.OutOfMemory) × (stop_of BadLimit ≡ stop.Input (fault_at BadLimit 0))
+stops_of_refusals : (stop_of OutOfMemory ≡ stop.OutOfMemory) × (stop_of BadLimit ≡ stop.Fault (fault_at BadLimit 0))
 stops_of_refusals = (refl, refl)
 
 -- a write of a text appends all of it, or fails and appends a prefix
@@ -113,10 +113,10 @@ some_of_another (failed, ([], whole, new)) = let e = new in cc e
 some_of_another (failed, (byte ∷ front, whole, new)) = omega (arith, ap first_of whole.1, ap first_of new)
 
 -- a run that stops has written the lines before the fault, or some of them where memory ran out
-fault_in_a_good_run : WritesRun {A = Unit {0}} (Some []) (Some []) (Err (stop.Input (fault_at BadRecord 5))) (printed_run []) → ⊥
+fault_in_a_good_run : WritesRun {A = Unit {0}} (Some []) (Some []) (Err (stop.Fault (fault_at BadRecord 5))) (printed_run []) → ⊥
 fault_in_a_good_run h = let e = h.0 in cc e
 
-line_before_a_fault_left_out : WritesRun {A = Unit {0}} (Some []) (Some []) (Err (stop.Input (fault_at BadRecord 5))) (with_lines (codes "began" ∷ []) (stopped_run (fault_at BadRecord 5))) → ⊥
+line_before_a_fault_left_out : WritesRun {A = Unit {0}} (Some []) (Some []) (Err (stop.Fault (fault_at BadRecord 5))) (with_lines (codes "began" ∷ []) (stopped_run (fault_at BadRecord 5))) → ⊥
 line_before_a_fault_left_out h = let e = h.1 in cc e
 
 line_made_up : WritesRun {A = Unit {0}} (Some []) (Some seven) (Err stop.OutOfMemory) (printed_run []) → ⊥
@@ -144,7 +144,7 @@ another_part_of_a_failed_input h = omega (arith, ap first_of h.1)
 another_part_before_a_failed_write : ReadTo {T = Unit {0}} (Err stop.WriteFault) (8 ∷ []) seven → ⊥
 another_part_before_a_failed_write h = omega (arith, ap first_of h.1)
 
-part_refused_as_the_whole : ReadTo {T = Unit {0}} (Err (stop.Input (fault_at BadRecord 5))) [] seven → ⊥
+part_refused_as_the_whole : ReadTo {T = Unit {0}} (Err (stop.Fault (fault_at BadRecord 5))) [] seven → ⊥
 part_refused_as_the_whole e = cc e
 
 -- a register starts as it was asked, or is refused as the definition says
@@ -154,10 +154,10 @@ starts_otherwise h = let e = ap (λ (l : Ledger). l.limit) h.1 in omega (arith, 
 started_without_room : Starts (run_limits 1 0) [] (Ok (ledger_at_start (run_limits 1 0) [])) → ⊥
 started_without_room h = let e = h.0 in cc e
 
-refused_without_reason : Starts (run_limits 1 9) [] (Err (stop.Input (fault_at BadLimit 0))) → ⊥
+refused_without_reason : Starts (run_limits 1 9) [] (Err (stop.Fault (fault_at BadLimit 0))) → ⊥
 refused_without_reason (why, is, same) = let e = is in cc e
 
-refused_at_a_record : Starts (run_limits 1 0) [] (Err (stop.Input (fault_at BadLimit 5))) → ⊥
+refused_at_a_record : Starts (run_limits 1 0) [] (Err (stop.Fault (fault_at BadLimit 5))) → ⊥
 refused_at_a_record (why, is, same) = let e = ap (λ (f : Fault). f.place) same in omega (arith, e)
 
 -- the line of a fault is written, and the fault returned, or a failed write
@@ -192,7 +192,7 @@ written_after_a_failure h = let e = h.1 in cc e
 failure_called_otherwise : EndsRun {A = Unit {0}} (Some []) (Some []) (Err stop.WriteFault) (Err (fault_at ReadFault 0)) → ⊥
 failure_called_otherwise h = let e = ap (λ (f : Fault). f.code) h.0 in omega (arith, e)
 
-stopped_without_its_line : EndsRun {A = Unit {0}} (Some []) (Some []) (Err (stop.Input (fault_at BadRecord 5))) (Err (fault_at BadRecord 5)) → ⊥
+stopped_without_its_line : EndsRun {A = Unit {0}} (Some []) (Some []) (Err (stop.Fault (fault_at BadRecord 5))) (Err (fault_at BadRecord 5)) → ⊥
 stopped_without_its_line h = fault_without_its_line h
 
 -- one read: bytes were given, or it was interrupted and counted, or the input has ended

@@ -8,7 +8,7 @@ use Rattle.std.proofs.lemmas.List.Sums.{take_while-cons}
 use Rattle.council_core.specs.Rolls.{Opening}
 use Rattle.council_core.specs.declared.limits.TheConstants.{MAX_MEMBERS}
 use Rattle.board_text.specs.Requests.{Row, is_header, is_mark, member_of}
-use Rattle.board_text.specs.Text.{Opened, before_mark, is_no_member, members_before, members_in, opened_of, opening_of, unless_bad}
+use Rattle.board_text.specs.Text.{Preamble, before_mark, is_no_member, members_before, members_in, preamble_of, preamble_after_header, unless_bad}
 use Rattle.board_text.specs.declared.faults.Fault.{Fault}
 use Rattle.board_text.specs.declared.stops.Stop.{Stop}
 use Rattle.board_text.specs.declared.stops.Stop.TheVariants as stop
@@ -90,29 +90,29 @@ none-bad k (r ∷ rs) none =
     ] refl
 
 -- where the opening was read, its members are those
-abbrev Same : Opening → Result Opened Fault → Type 0
+abbrev Same : Opening → Result Preamble Fault → Type 0
 Same got r = IfOk r (λ o. got ≡ o.0)
 
-same-unless : (got : Opening) (bad : Option ℕ) (more : Result Opened Fault) → (bad ≡ None → Same got more) → Same got (unless_bad bad more)
+same-unless : (got : Opening) (bad : Option ℕ) (more : Result Preamble Fault) → (bad ≡ None → Same got more) → Same got (unless_bad bad more)
 same-unless got None more same = same refl
 same-unless got (Some number) more same = tt
 
-same-either : (got : Opening) (b : Bool) (p q : Result Opened Fault) → (b ≡ true → Same got p) → (b ≡ false → Same got q) → Same got (if b then p else q)
+same-either : (got : Opening) (b : Bool) (p q : Result Preamble Fault) → (b ≡ true → Same got p) → (b ≡ false → Same got q) → Same got (if b then p else q)
 same-either got true p q h i = h refl
 same-either got false p q h i = i refl
 
-same-before : (rs : List Row) → Same (members_before rs) (opening_of rs)
-unfolding members_before opening_of
+same-before : (rs : List Row) → Same (members_before rs) (preamble_after_header rs)
+unfolding members_before preamble_after_header
 same-before rs =
     same-unless _ _ _ (λ none.
     same-either _ (nat_lt MAX_MEMBERS (length (before_mark rs))) _ _ (λ full. tt) (λ fits.
     same-either _ (list_any is_mark rs) _ _ (λ marked. ap (filter_map member_of)
     (none-bad 2 _ none ∙ take_all MAX_MEMBERS (before_mark rs) (ltb-false MAX_MEMBERS _ fits))) (λ unmarked. tt)))
 
-same-start : (b : Bool) (rs : List Row) (f : Fault) → Same (if b then members_before rs else []) (if b then opening_of rs else Err f)
+same-start : (b : Bool) (rs : List Row) (f : Fault) → Same (if b then members_before rs else []) (if b then preamble_after_header rs else Err f)
 same-start true rs f = same-before rs
 same-start false rs f = tt
 
-pub members-opened : (rs : List Row) → IfOk (opened_of rs) (λ o. members_in rs ≡ o.0)
+pub members-opened : (rs : List Row) → IfOk (preamble_of rs) (λ o. members_in rs ≡ o.0)
 members-opened [] = tt
 members-opened (r ∷ rs) = same-start (is_header r) rs _

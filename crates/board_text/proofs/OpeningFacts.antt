@@ -8,11 +8,11 @@ use Rattle.council_core.specs.Rolls.{Opening}
 use Rattle.council_core.specs.declared.limits.TheConstants.{MAX_MEMBERS}
 use Rattle.council_core.specs.declared.refusals.Refusal.TheVariants.{BadRecord, NoScript, TooManyMembers}
 use Rattle.board_text.specs.Requests.{Row, is_mark, member_of}
-use Rattle.board_text.specs.Text.{Opened, before_mark, fault_at, is_no_member, opening_of, unless_bad}
+use Rattle.board_text.specs.Text.{Preamble, before_mark, fault_at, is_no_member, preamble_after_header, unless_bad}
 use Rattle.board_text.specs.declared.faults.Fault.{Fault}
 
 -- the opening, after `members` were read and at most `room` more are allowed; k is the number of the next record
-unfoldable pub opening_after : Opening → ℕ → ℕ → List Row → Result Opened Fault
+unfoldable pub opening_after : Opening → ℕ → ℕ → List Row → Result Preamble Fault
 opening_after members room k rows =
     unless_bad (position_from is_no_member k (take room (before_mark rows)))
     (if nat_lt room (length (before_mark rows)) then Err (fault_at TooManyMembers 0)
@@ -20,8 +20,8 @@ opening_after members room k rows =
     then Ok (members ++ filter_map member_of (before_mark rows), length (before_mark rows) + (k + 1), after_first is_mark rows)
     else Err (fault_at NoScript 0))
 
-pub opening-starts : (rs : List Row) → opening_of rs ≡ opening_after [] MAX_MEMBERS 2 rs
-unfolding opening_of opening_after
+pub opening-starts : (rs : List Row) → preamble_after_header rs ≡ opening_after [] MAX_MEMBERS 2 rs
+unfolding preamble_after_header opening_after
 opening-starts rs = refl
 
 -- the records before the mark and after it, where the first record is not the mark

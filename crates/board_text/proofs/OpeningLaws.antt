@@ -7,7 +7,7 @@ use Rattle.csv.specs.Reading.{default_config, records, strip_bom}
 use Rattle.council_core.specs.Rolls.{Opening}
 use Rattle.council_core.specs.declared.limits.TheConstants.{MAX_MEMBERS}
 use Rattle.board_text.specs.Requests.{Row}
-use Rattle.board_text.specs.Text.{opened_of}
+use Rattle.board_text.specs.Text.{preamble_of}
 use Rattle.board_text.specs.Writing.{Field, IsMember, IsRequest, bytes_of, field_text, fields_text, header_row, written_rows, mark_row, member_row, quoted_as, request_row, rows_text}
 use Rattle.board_text.specs.declared.requests.Request.{Request}
 use Rattle.board_text.proofs.OpeningFacts.{opening-mark, opening-member, opening-starts, opening_after}
@@ -47,7 +47,7 @@ requests-plain (q ∷ requests) are = (request-plain q are.0, requests-plain req
 
 pub input-law : (members : Opening) (requests : List Request) (input : List (List Field)) → All IsMember members → All IsRequest requests → length members ≤ MAX_MEMBERS
     → map bytes_of input ≡ written_rows members (map request_row requests)
-    → opened_of (records default_config (strip_bom (rows_text input))) ≡ Ok (members, length members + 3, map request_row requests)
+    → preamble_of (records default_config (strip_bom (rows_text input))) ≡ Ok (members, length members + 3, map request_row requests)
 input-law members requests input are asked fits same =
     let members_are = recursion_from_All IsMember members are in
     let requests_are = recursion_from_All IsRequest requests asked in
@@ -55,7 +55,7 @@ input-law members requests input are asked fits same =
       record { starts = omega arith; plain = (refl, (refl, tt)) },
       members-plain members (mark_row ∷ map request_row requests) members_are (record { starts = omega arith; plain = (refl, tt) }, requests-plain requests requests_are),
     ) in
-    ap (λ bytes. opened_of (records default_config bytes)) (begins input _ same)
-    ∙ ap opened_of (rows-read input (subst ArePlainRows (sym same) plain) ∙ same)
+    ap (λ bytes. preamble_of (records default_config bytes)) (begins input _ same)
+    ∙ ap preamble_of (rows-read input (subst ArePlainRows (sym same) plain) ∙ same)
     ∙ opening-starts _ ∙ opening-read [] members MAX_MEMBERS 2 (map request_row requests) members_are (omega (arith, fits))
     ∙ ap (λ n. Ok (members, n, map request_row requests)) (omega arith)

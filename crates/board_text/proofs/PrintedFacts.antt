@@ -1,14 +1,15 @@
 -- What is printed of a reading determines it.
 use Rattle.std.proofs.Common.{◌≡◌, ◌==◌, ◌<◌, ◌≤◌, ◌+◌, ◌-◌, ◌^◌, ℕ, zero, suc, Bool, true, false, List, [], ◌∷◌, ◌++◌, length, map, take, get_or, Option, Some, None, refl, sym, ap, ◌∙◌, arith, inl, inr, if◌then◌else◌}
-use Rattle.std.specs.Prelude.{decimal, slice_index, codes}
+use Rattle.std.specs.Prelude.{decimal, not, slice_index, codes}
+use Rattle.std.specs.List.{list_any}
 use Rattle.std.proofs.Math.Seq.{drop-cons}
-use Rattle.std.proofs.lemmas.Bool.{cases_Bool, eqb-true, or_from}
+use Rattle.std.proofs.lemmas.Bool.{cases_Bool, eqb-true, false_from_ne_true, false≢true, or_from}
 use Rattle.std.proofs.lemmas.Fmt.{decimal_injective}
 use Rattle.std.proofs.lemmas.List.{drop_all, length-take, length-take-le, take-append-drop}
 use Rattle.std.proofs.lemmas.List.Folds.{list_any-append}
 use Rattle.council_core.specs.Sheets.{Chair, IsSheet, open_chairs, open_from}
 use Rattle.majority_rule.specs.declared.majorities.Majority.{Majority}
-use Rattle.majority_rule.specs.declared.majorities.Majority.TheVariants.{Half, Seventy, EightyFive, Quorum}
+use Rattle.majority_rule.proofs.Face.{each-majority, majority-back}
 use Rattle.power_index.specs.Indices.{fraction, indices_of}
 use Rattle.power_index.specs.declared.indices.ChairPower.{ChairPower}
 use Rattle.power_index.specs.declared.indices.Fraction.{Fraction}
@@ -17,13 +18,9 @@ use Rattle.board_text.specs.Lines.{chair_line, fraction_if_any, reading_line, re
 use Rattle.board_text.specs.Laws.{IsReading}
 use Rattle.majority_rule.specs.Majorities.{majority_of, word_of_majority}
 use Rattle.board_text.proofs.LineFacts.{HasNoComma, fields_from, line-back, number-none}
-use Rattle.board_text.proofs.WordFacts.{word-back}
 
 word-none : (m : Majority) → HasNoComma (word_of_majority m)
-word-none Half = refl
-word-none Seventy = refl
-word-none EightyFive = refl
-word-none Quorum = refl
+word-none m = false_from_ne_true _ (λ t. false≢true (sym (ap not t) ∙ each-majority (λ m. not (list_any (λ b. b == 44) (word_of_majority m))) refl m))
 
 fraction-none : (f : Fraction) → HasNoComma (fraction f)
 fraction-none f = list_any-append (λ b. b == 44) (decimal f.num) (47 ∷ decimal f.den) ∙ or_from _ _ (number-none f.num) (number-none f.den)
@@ -190,7 +187,7 @@ first-line r s i j same =
     record { reader = cc fields; front = cc fields; majority = cc fields; total = cc fields }
 
 same-majority : (m n : Majority) → word_of_majority m ≡ word_of_majority n → m ≡ n
-same-majority m n same = let e = sym (word-back m) ∙ ap majority_of same ∙ word-back n in cc e
+same-majority m n same = let e = sym (majority-back m) ∙ ap majority_of same ∙ majority-back n in cc e
 
 -- the words of two sheets with the same open chairs, the same total and the same front
 same-words : (words others : List ℕ) → length words ≡ 34 → length others ≡ 34 → open_chairs words ≡ open_chairs others

@@ -26,7 +26,7 @@ module _ (from to : Calls) where
   reads-failed stop.ReadFault p = inr (refl, p)
   reads-failed stop.OutOfMemory p = inl (fewer p)
   reads-failed stop.WriteFault p = inl (fewer p)
-  reads-failed (stop.Input f) p = inl (fewer p)
+  reads-failed (stop.Fault f) p = inl (fewer p)
 
   -- the same error, passed on
   pub reads-passed : (e d : Stop) → d ≡ e → CallsWithin (most_reads_at e) from to → RunsWithin {A = Unit {0}} IsReadFault most_reads from to (Err d)
@@ -42,7 +42,7 @@ module _ (from to : Calls) where
     reported stop.ReadFault g (inr ends) failed = inr ends.0
     reported stop.OutOfMemory g ends failed = cc failed
     reported stop.WriteFault g ends failed = cc failed
-    reported (stop.Input f) g ends failed = cc failed
+    reported (stop.Fault f) g ends failed = cc failed
 
     -- a run that ended
     pub reads-ended : (carried : Result A Stop) (r : Result A Fault) → EndsRun a b carried r → RunsWithin IsReadFault most_reads from to carried → RunsWithin IsOfDevice most_reads from to r

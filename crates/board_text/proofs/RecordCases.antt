@@ -10,7 +10,7 @@ use Rattle.csv.specs.Reading.{default_config, records, strip_bom}
 use Rattle.majority_rule.specs.declared.majorities.Majority.TheVariants.{Half, Seventy, EightyFive, Quorum}
 use Rattle.board_text.specs.Numbers.{number_of_digits}
 use Rattle.board_text.specs.Requests.{Row, call_of, command_of, is_header, is_mark, member_of, reading_of, request_of}
-use Rattle.board_text.specs.Text.{started_of, fault_at, in_range, is_reader, ledger_at_start, members_before, members_in, opened_of, opening_of, request_within, started_after, run_limits, unpublished_register}
+use Rattle.board_text.specs.Text.{started_of, fault_at, in_range, is_reader, ledger_at_start, members_before, members_in, preamble_of, preamble_after_header, request_within, started_after, run_limits, unpublished_register}
 use Rattle.majority_rule.specs.Majorities.{majority_of}
 use Rattle.board_text.specs.Words.{chair_of, code_of_member, target_chair, votes_of}
 use Rattle.board_text.specs.declared.bounds.Limits.{Limits}
@@ -26,7 +26,7 @@ too_long : (lim : Limits) (bytes : List ℕ) → in_range lim ≡ true → lengt
 unfolding started_of
 too_long lim bytes range long = rw range (rw long refl)
 
-not_too_long : (lim : Limits) (bytes : List ℕ) → in_range lim ≡ true → length bytes ≡ 4194304 → started_of lim bytes ≡ started_after lim (opened_of (records default_config (strip_bom bytes)))
+not_too_long : (lim : Limits) (bytes : List ℕ) → in_range lim ≡ true → length bytes ≡ 4194304 → started_of lim bytes ≡ started_after lim (preamble_of (records default_config (strip_bom bytes)))
 unfolding started_of
 not_too_long lim bytes range long = rw range (rw long refl)
 
@@ -131,24 +131,24 @@ no_member = codes "AAA" ∷ []
 abbrev mark : Row
 mark = codes "script" ∷ []
 
-script_behind_a_member : opened_of (header ∷ member ∷ mark ∷ mark ∷ []) ≡ Ok ((AAA, 1) ∷ [], 4, mark ∷ [])
-unfolding opening_of
+script_behind_a_member : preamble_of (header ∷ member ∷ mark ∷ mark ∷ []) ≡ Ok ((AAA, 1) ∷ [], 4, mark ∷ [])
+unfolding preamble_after_header
 script_behind_a_member = refl
 
-script_without_members : opened_of (header ∷ mark ∷ []) ≡ Ok ([], 3, [])
-unfolding opening_of
+script_without_members : preamble_of (header ∷ mark ∷ []) ≡ Ok ([], 3, [])
+unfolding preamble_after_header
 script_without_members = refl
 
-faults_before_a_script : (opened_of [] ≡ Err (fault_at BadHeader 0)) × (opened_of (mark ∷ header ∷ []) ≡ Err (fault_at BadHeader 0)) × (opened_of (header ∷ member ∷ []) ≡ Err (fault_at NoScript 0)) × (opened_of (header ∷ no_member ∷ mark ∷ []) ≡ Err (fault_at BadRecord 2)) × (opened_of (header ∷ member ∷ no_member ∷ []) ≡ Err (fault_at BadRecord 3))
-unfolding opening_of
+faults_before_a_script : (preamble_of [] ≡ Err (fault_at BadHeader 0)) × (preamble_of (mark ∷ header ∷ []) ≡ Err (fault_at BadHeader 0)) × (preamble_of (header ∷ member ∷ []) ≡ Err (fault_at NoScript 0)) × (preamble_of (header ∷ no_member ∷ mark ∷ []) ≡ Err (fault_at BadRecord 2)) × (preamble_of (header ∷ member ∷ no_member ∷ []) ≡ Err (fault_at BadRecord 3))
+unfolding preamble_after_header
 faults_before_a_script = (refl, refl, refl, refl, refl)
 
 -- 256 members are not too many, and one more is, also if it isn't well formed
 abbrev largest_board : List Row
 largest_board = replicate 256 member
 
-after_256_members : (opening_of (largest_board ++ mark ∷ []) ≡ Ok (replicate 256 (AAA, 1), 259, [])) × (opening_of (largest_board ++ member ∷ mark ∷ []) ≡ Err (fault_at TooManyMembers 0)) × (opening_of (largest_board ++ no_member ∷ []) ≡ Err (fault_at TooManyMembers 0))
-unfolding opening_of
+after_256_members : (preamble_after_header (largest_board ++ mark ∷ []) ≡ Ok (replicate 256 (AAA, 1), 259, [])) × (preamble_after_header (largest_board ++ member ∷ mark ∷ []) ≡ Err (fault_at TooManyMembers 0)) × (preamble_after_header (largest_board ++ no_member ∷ []) ≡ Err (fault_at TooManyMembers 0))
+unfolding preamble_after_header
 after_256_members = (refl, refl, refl)
 
 -- the members that are read, also where they meet a fault

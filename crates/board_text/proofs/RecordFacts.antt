@@ -31,7 +31,7 @@ module _ {S A : Type 0} (parsed : Row → Result A Refusal) (effect : Effect S A
     script-refused why refused = rw (next, ← refused) refl
 
 -- a fault at a record stops a run, before any line
-pub refused-stops : {S : Type 0} (a : Option (List ℕ)) (e : Stop) (course : Course S) (why : Refusal) (k : ℕ) → e ≡ stop.Input (fault_at why k) → course ≡ record { lines = []; end = Err (fault_at why k) } → WritesUntilStop a a e (run_in course)
+pub refused-stops : {S : Type 0} (a : Option (List ℕ)) (e : Stop) (course : Course S) (why : Refusal) (k : ℕ) → e ≡ stop.Fault (fault_at why k) → course ≡ record { lines = []; end = Err (fault_at why k) } → WritesUntilStop a a e (run_in course)
 refused-stops a e course why k is same = rw (is, same) (refl, Appends-nil a)
 
 module _ {S : Type 0} (a b : Option (List ℕ)) (p : List LineBytes × S) (more : S → Course S) where

@@ -38,7 +38,7 @@ stops-after a b c done stop.ReadFault run p q = (done ++ q.0, front-after done q
 stops-after a b c done stop.WriteFault run p q =
     let P : List ℕ → Type 0 = λ t. IsPrefixOf (text_of done ++ q.0) t in
     (text_of done ++ q.0, subst P (sym (text-after done run.lines)) (front-after (text_of done) q.0 (text_of run.lines) q.1), Appends-trans a b c _ _ p q.2)
-stops-after a b c done (stop.Input f) run p q = (q.0, lines-then a b c done run.lines p q.1)
+stops-after a b c done (stop.Fault f) run p q = (q.0, lines-then a b c done run.lines p q.1)
 
 -- lines written, and then a run played
 pub writes-after : {A : Type 0} (a b c : Option (List ℕ)) (done : List (List ℕ)) (r : Result A Stop) (run : Run) → Appends a b (text_of done) → WritesRun b c r run → WritesRun a c r (with_lines done run)
@@ -52,7 +52,7 @@ writes-more a b stop.ReadFault ls run p = (p.0, front-before p.0 ls run.lines p.
 writes-more a b stop.WriteFault ls run p =
     let P : List ℕ → Type 0 = λ t. IsPrefixOf p.0 t in
     (p.0, subst P (sym (text-after ls run.lines)) (front-before p.0 (text_of ls) (text_of run.lines) p.1), p.2)
-writes-more a b (stop.Input f) ls run p = cc p.0
+writes-more a b (stop.Fault f) ls run p = cc p.0
 
 written-line : (a b : Option (List ℕ)) (e : Stop) (l : List ℕ) → e ≡ stop.WriteFault → AppendsFront a b (line_text l) → WritesUntilStop a b e (printed_run (l ∷ []))
 written-line a b stop.WriteFault l e p =
@@ -60,7 +60,7 @@ written-line a b stop.WriteFault l e p =
     (p.0, subst P (sym (append-nil (line_text l))) p.1, p.2)
 written-line a b stop.OutOfMemory l e p = cc e
 written-line a b stop.ReadFault l e p = cc e
-written-line a b (stop.Input f) l e p = cc e
+written-line a b (stop.Fault f) l e p = cc e
 
 -- a line written is a run of one line
 pub writes-line : (a b : Option (List ℕ)) (r : Result (Unit {0}) Stop) (l : List ℕ) → Writes a b r (line_text l) → WritesRun a b r (printed_run (l ∷ []))

@@ -18,7 +18,7 @@ use Rattle.board_text.specs.declared.bounds.TheConstants.{READERS}
 use Rattle.board_text.specs.declared.stops.Stop.TheVariants as stop
 use Rattle.board_text.specs.Requests.{member_of, request_of, submission}
 use Rattle.board_text.specs.Lines.{accepted_line, refused_line, published_line, chair_line}
-use Rattle.board_text.specs.Sinks.{AsksAtMost, GoesOn, HasFailed, IsWrittenBy, NoWriteInVain, Sink}
+use Rattle.board_text.specs.OutputStates.{CallsAtMost, IsSameOutput, HasFailed, IsWrittenBy, EachWriteAccepts, OutputState}
 
 pub member : member_of (codes "BBB" ∷ codes "49" ∷ []) ≡ Some (66 ∷ 66 ∷ 66 ∷ [], 49)
 member = refl
@@ -61,65 +61,65 @@ second_chair = refl
 abbrev writer : ℕ → ℕ → ℕ → WriterRecord
 writer made empty interrupted = record { writer = 0; at_start = None; contents = None; bytes = []; calls = record { made = made; empty = empty; interrupted = interrupted } }
 
--- a sink after `retried` retried interruptions and `made` writes, `none` of which accepted no byte
-abbrev sink : ℕ → ℕ → ℕ → Sink
-sink retried made none = record { lender = 0; start = writer 0 0 0; now = writer made none 0; held = None; retried = retried; failed = false }
+-- an output after `retried` retried interruptions and `made` writes, `none` of which accepted no byte
+abbrev output_after : ℕ → ℕ → ℕ → OutputState
+output_after retried made none = record { writer = 0; start = writer 0 0 0; now = writer made none 0; contents = None; retried = retried; failed = false }
 
-goes_on : GoesOn (sink 1 2 1) (sink 2 5 2)
+goes_on : IsSameOutput (output_after 1 2 1) (output_after 2 5 2)
 goes_on = (refl, refl, omega arith)
 
 -- an interruption is not forgotten, and the writer stays
-forgotten_interruption : GoesOn (sink 1 1 1) (sink 0 1 1) → ⊥
+forgotten_interruption : IsSameOutput (output_after 1 1 1) (output_after 0 1 1) → ⊥
 forgotten_interruption h = absurd (omega (arith, h.2))
 
-another_writer : GoesOn (sink 1 1 1) (record (sink 1 1 1) { lender = 7 }) → ⊥
+another_writer : IsSameOutput (output_after 1 1 1) (record (output_after 1 1 1) { writer = 7 }) → ⊥
 another_writer h = let e = h.0 in cc e
 
-another_start : GoesOn (sink 1 1 1) (record (sink 1 1 1) { start = record (writer 0 0 0) { writer = 1 } }) → ⊥
+another_start : IsSameOutput (output_after 1 1 1) (record (output_after 1 1 1) { start = record (writer 0 0 0) { writer = 1 } }) → ⊥
 another_start h = let e = ap (λ (w : WriterRecord). w.writer) h.1 in cc e
 
 -- of two bytes, two writes and an interruption that was retried
-asks_thrice : AsksAtMost (sink 0 0 0) (sink 1 3 1) 2
+asks_thrice : CallsAtMost (output_after 0 0 0) (output_after 1 3 1) 2
 asks_thrice = omega arith
 
-asks_too_often : AsksAtMost (sink 0 0 0) (sink 0 3 1) 2 → ⊥
+asks_too_often : CallsAtMost (output_after 0 0 0) (output_after 0 3 1) 2 → ⊥
 asks_too_often h = absurd (omega (arith, h))
 
 -- one write of both bytes, and another of none
-one_write : NoWriteInVain {A = Unit {0}} {E = Unit {0}} (sink 0 0 0) (sink 0 1 0) (Ok tt)
+one_write : EachWriteAccepts {A = Unit {0}} {E = Unit {0}} (output_after 0 0 0) (output_after 0 1 0) (Ok tt)
 one_write = omega arith
 
-write_in_vain : NoWriteInVain {A = Unit {0}} {E = Unit {0}} (sink 0 0 0) (sink 0 2 1) (Ok tt) → ⊥
+write_in_vain : EachWriteAccepts {A = Unit {0}} {E = Unit {0}} (output_after 0 0 0) (output_after 0 2 1) (Ok tt) → ⊥
 write_in_vain h = absurd (omega (arith, h))
 
-uncounted_retry : NoWriteInVain {A = Unit {0}} {E = Unit {0}} (sink 0 0 0) (sink 1 1 0) (Ok tt) → ⊥
+uncounted_retry : EachWriteAccepts {A = Unit {0}} {E = Unit {0}} (output_after 0 0 0) (output_after 1 1 0) (Ok tt) → ⊥
 uncounted_retry h = absurd (omega (arith, h))
 
-failed_write : NoWriteInVain {A = Unit {0}} {E = Unit {0}} (sink 0 0 0) (sink 0 1 1) (Err tt)
+failed_write : EachWriteAccepts {A = Unit {0}} {E = Unit {0}} (output_after 0 0 0) (output_after 0 1 1) (Err tt)
 failed_write = omega arith
 
 -- an error without a failure: no write, one that took a byte, or an interruption that was retried
-error_without_a_write : NoWriteInVain {A = Unit {0}} {E = Unit {0}} (sink 0 0 0) (sink 0 0 0) (Err tt) → ⊥
+error_without_a_write : EachWriteAccepts {A = Unit {0}} {E = Unit {0}} (output_after 0 0 0) (output_after 0 0 0) (Err tt) → ⊥
 error_without_a_write h = absurd (omega (arith, h))
 
-no_failure : HasFailed (sink 0 0 0) (sink 0 1 0) → ⊥
+no_failure : HasFailed (output_after 0 0 0) (output_after 0 1 0) → ⊥
 no_failure h = absurd (omega (arith, h))
 
-retried_and_no_failure : HasFailed (sink 0 0 0) (sink 1 1 1) → ⊥
+retried_and_no_failure : HasFailed (output_after 0 0 0) (output_after 1 1 1) → ⊥
 retried_and_no_failure h = absurd (omega (arith, h))
 
-written_twice_and_failed : NoWriteInVain {A = Unit {0}} {E = Unit {0}} (sink 0 0 0) (sink 0 2 2) (Err tt) → ⊥
+written_twice_and_failed : EachWriteAccepts {A = Unit {0}} {E = Unit {0}} (output_after 0 0 0) (output_after 0 2 2) (Err tt) → ⊥
 written_twice_and_failed h = absurd (omega (arith, h))
 
 -- after a write that failed there is no other
-abbrev failed_sink : ℕ → Sink
-failed_sink made = record (sink 0 made 1) { failed = true }
+abbrev failed_output : ℕ → OutputState
+failed_output made = record (output_after 0 made 1) { failed = true }
 
-nothing_behind_a_failure : NoWriteInVain {A = Unit {0}} {E = Unit {0}} (failed_sink 1) (failed_sink 1) (Err tt)
+nothing_behind_a_failure : EachWriteAccepts {A = Unit {0}} {E = Unit {0}} (failed_output 1) (failed_output 1) (Err tt)
 nothing_behind_a_failure = refl
 
-written_behind_a_failure : NoWriteInVain {A = Unit {0}} {E = Unit {0}} (failed_sink 1) (failed_sink 2) (Err tt) → ⊥
-written_behind_a_failure h = let e = ap (λ (s : Sink). s.now.calls.made) h in cc e
+written_behind_a_failure : EachWriteAccepts {A = Unit {0}} {E = Unit {0}} (failed_output 1) (failed_output 2) (Err tt) → ⊥
+written_behind_a_failure h = let e = ap (λ (s : OutputState). s.now.calls.made) h in cc e
 
 -- two bytes of a writer and three writes of them, one interrupted and retried; and a fourth that failed
 abbrev two_written : ℕ → ℕ → ℕ → WriterRecord
@@ -186,7 +186,7 @@ read_without_memory h = absurd (omega (arith, h.empty))
 read_for_a_failed_write : ReadsTo (Err stop.WriteFault) (reads_made 1 1 0) → ⊥
 read_for_a_failed_write h = absurd (omega (arith, h.empty))
 
-read_behind_too_long : ReadsTo (Err (stop.Input (fault_at TooLong 0))) (reads_made 1 1 0) → ⊥
+read_behind_too_long : ReadsTo (Err (stop.Fault (fault_at TooLong 0))) (reads_made 1 1 0) → ⊥
 read_behind_too_long h = absurd (omega (arith, h.empty))
 
 -- after all retries the next interruption is a failed read, and there is no other
@@ -224,7 +224,7 @@ retried_thrice_for_a_failed_write : RunsWithin {A = Unit {0}} IsReadFault five_r
 retried_thrice_for_a_failed_write (inl bound) = absurd (omega (arith, bound.interrupted))
 retried_thrice_for_a_failed_write (inr more) = let e = more.0 in cc e
 
-retried_thrice_and_too_long : RunsWithin {A = Unit {0}} IsReadFault five_reads (reads_made 0 0 0) (reads_made 3 0 3) (Err (stop.Input (fault_at TooLong 0))) → ⊥
+retried_thrice_and_too_long : RunsWithin {A = Unit {0}} IsReadFault five_reads (reads_made 0 0 0) (reads_made 3 0 3) (Err (stop.Fault (fault_at TooLong 0))) → ⊥
 retried_thrice_and_too_long (inl bound) = absurd (omega (arith, bound.interrupted))
 retried_thrice_and_too_long (inr more) = let e = more.0 in cc e
 
@@ -299,7 +299,7 @@ broken_at_a_record (inr e) = absurd (omega (arith, place e))
 input_not_written : Fails {A = Unit {0}} stop.WriteFault (Ok tt) → ⊥
 input_not_written h = h
 
-another_fault_reported : Fails {A = Unit {0}} (stop.Input (fault_at BadRecord 2)) (Err (fault_at BadRecord 3)) → ⊥
+another_fault_reported : Fails {A = Unit {0}} (stop.Fault (fault_at BadRecord 2)) (Err (fault_at BadRecord 3)) → ⊥
 another_fault_reported e = absurd (omega (arith, place (reported e)))
 
 start_reads_nothing : (lim : Limits) (members : Opening) → Starts lim members (Err stop.ReadFault) → ⊥
@@ -312,7 +312,7 @@ start_writes_nothing lim members h = h
 stopped_run_played : WritesRun {A = Unit {0}} (Some []) (Some []) (Ok tt) (stopped_run (fault_at BadRecord 5)) → ⊥
 stopped_run_played h = let e = h.0 in cc e
 
-stopped_by_another : WritesRun {A = Unit {0}} (Some []) (Some []) (Err (stop.Input (fault_at BadRecord 6))) (stopped_run (fault_at BadRecord 5)) → ⊥
+stopped_by_another : WritesRun {A = Unit {0}} (Some []) (Some []) (Err (stop.Fault (fault_at BadRecord 6))) (stopped_run (fault_at BadRecord 5)) → ⊥
 stopped_by_another h = let e : fault_at BadRecord 5 ≡ fault_at BadRecord 6 = let d = h.0 in cc d in absurd (omega (arith, place e))
 
 line_left_out : WritesRun {A = Unit {0}} (Some []) (Some []) (Ok tt) (printed_run (codes "began" ∷ [])) → ⊥

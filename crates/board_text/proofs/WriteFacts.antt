@@ -5,7 +5,7 @@ use Rattle.std.proofs.lemmas.List.{append-nil, length-drop, take_all, take-appen
 use Rattle.std.proofs.KnownBytes.{Appends-trans}
 use Rattle.std.specs.Io.KnownBytes.{Appends}
 use Rattle.board_text.specs.Output.{AppendsFront, Writes}
-use Rattle.board_text.specs.Sinks.{FailsOnce, HasFailed, Sink}
+use Rattle.board_text.specs.OutputStates.{FailsOnce, HasFailed, OutputState}
 use Rattle.board_text.specs.declared.stops.Stop.{Stop}
 
 -- the rest of a slice, as a range of it
@@ -31,14 +31,14 @@ front-written_by a b (Ok u) text p = (text, ([], sym (append-nil text)), p)
 front-written_by a b (Err e) text p = p.1
 
 -- a text was written whole, or the writer failed
-pub whole-or-failed : (before after : Sink) (r : Result (Unit {0}) Stop) (text : List ℕ) → Writes before.held after.held r text → IfErr r (λ _. after.failed ≡ true)
-    → Appends before.held after.held text ⊎ (after.failed ≡ true)
+pub whole-or-failed : (before after : OutputState) (r : Result (Unit {0}) Stop) (text : List ℕ) → Writes before.contents after.contents r text → IfErr r (λ _. after.failed ≡ true)
+    → Appends before.contents after.contents text ⊎ (after.failed ≡ true)
 whole-or-failed before after (Ok u) text p q = inl p
 whole-or-failed before after (Err e) text p q = inr q
 
 -- what fails in an output that hadn't failed before
-pub first-failure : (before after : Sink) → before.failed ≡ false → FailsOnce before.failed before after → HasFailed before after
+pub first-failure : (before after : OutputState) → before.failed ≡ false → FailsOnce before.failed before after → HasFailed before after
 first-failure before after live h = subst (λ (b : Bool). FailsOnce b before after) live h
 
-pub as-first : (before after : Sink) → before.failed ≡ false → HasFailed before after → FailsOnce before.failed before after
+pub as-first : (before after : OutputState) → before.failed ≡ false → HasFailed before after → FailsOnce before.failed before after
 as-first before after live h = subst (λ (b : Bool). FailsOnce b before after) (sym live) h

@@ -9,7 +9,7 @@ use Rattle.majority_rule.specs.declared.majorities.Majority.{Majority}
 use Rattle.board_text.specs.Lines.{reading_lines}
 use Rattle.board_text.specs.Numbers.{number_of_digits}
 use Rattle.board_text.specs.Requests.{Row, member_of, request_of}
-use Rattle.board_text.specs.Text.{opened_of}
+use Rattle.board_text.specs.Text.{preamble_of}
 use Rattle.majority_rule.specs.Majorities.{majority_of, word_of_majority}
 use Rattle.board_text.specs.Writing.{Field, IsMember, IsRequest, bytes_of, member_row, request_row}
 use Rattle.board_text.specs.Writing.{written_rows, row_text, rows_text}
@@ -51,7 +51,7 @@ abbrev pub InputLaw : Type 0
 InputLaw = (members : Opening) (requests : List Request) (input : List (List Field)) → All IsMember members
     → All IsRequest requests → length members ≤ MAX_MEMBERS
     → map bytes_of input ≡ written_rows members (map request_row requests)
-    → opened_of (records default_config (strip_bom (rows_text input)))
+    → preamble_of (records default_config (strip_bom (rows_text input)))
     ≡ Ok (members, length members + 3, map request_row requests)
 
 -- a reading of a sheet by a numbered reader

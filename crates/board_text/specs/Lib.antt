@@ -5,7 +5,7 @@ pub mod Requests
 pub mod Lines
 pub mod Text
 pub mod Script
-pub mod Sinks
+pub mod OutputStates
 pub mod Output
 pub mod Inputs
 pub mod Streams

@@ -5,7 +5,7 @@ use Rattle.std.specs.Io.KnownBytes.{Appends}
 use Rattle.council_core.specs.Ledgers.{Ledger, start_verdict}
 use Rattle.council_core.specs.Rolls.{Opening}
 use Rattle.council_core.specs.declared.refusals.Refusal.{Refusal}
-use Rattle.council_core.specs.declared.refusals.Refusal.TheVariants as why
+use Rattle.council_core.specs.declared.refusals.Refusal.TheVariants as refusal
 use Rattle.board_text.specs.declared.bounds.Limits.{Limits}
 use Rattle.board_text.specs.Lines.{LineBytes, fault_line}
 use Rattle.board_text.specs.Text.{Run, fault_at, line_text, ledger_at_start, text_of}
@@ -37,13 +37,13 @@ abbrev pub AppendsLines : Option (List ℕ) → Option (List ℕ) → List LineB
 AppendsLines old new lines = (front : List LineBytes) × IsPrefixOf front lines × Appends old new (text_of front)
 
 -- a run that stopped has written this, before the line of its fault: without memory or after a failed read a prefix of
--- its lines, each whole; after a failed write a prefix of their text; at a fault of the input, which is the run's own,
--- all of its lines
+-- its lines, each whole; after a failed write a prefix of their text; at any other fault, which is the run's own, all
+-- of its lines
 abbrev pub WritesUntilStop : Option (List ℕ) → Option (List ℕ) → Stop → Run → Type 0
 WritesUntilStop old new stop.OutOfMemory run = AppendsLines old new run.lines
 WritesUntilStop old new stop.ReadFault run = AppendsLines old new run.lines
 WritesUntilStop old new stop.WriteFault run = AppendsFront old new (text_of run.lines)
-WritesUntilStop old new (stop.Input f) run = (run.end ≡ Some f) × Appends old new (text_of run.lines)
+WritesUntilStop old new (stop.Fault f) run = (run.end ≡ Some f) × Appends old new (text_of run.lines)
 
 -- a run has written this, before the line of a fault: all of its lines, if no fault ends it, or what it writes until it
 -- stops
@@ -51,18 +51,22 @@ abbrev pub WritesRun : {A : Type 0} → Option (List ℕ) → Option (List ℕ) 
 WritesRun old new (Ok _) run = (run.end ≡ None) × Appends old new (text_of run.lines)
 WritesRun old new (Err e) run = WritesUntilStop old new e run
 
+-- out of memory, or a failed write
+abbrev pub IsMemoryOrWrite : Stop → Type 0
+IsMemoryOrWrite e = (e ≡ stop.OutOfMemory) ⊎ (e ≡ stop.WriteFault)
+
 -- the error of a read of the input: out of memory, a failed read, or the fault that the definition
 -- gives
 abbrev pub Fails : {A : Type 0} → Stop → Result A Fault → Type 0
 Fails stop.OutOfMemory spec = Unit {0}
 Fails stop.ReadFault spec = Unit {0}
 Fails stop.WriteFault spec = ⊥
-Fails (stop.Input f) spec = spec ≡ Err f
+Fails (stop.Fault f) spec = spec ≡ Err f
 
 -- what was read of `all`: all of it, or a prefix if memory ran out
 abbrev pub ReadTo : {T A : Type 0} → Result T Stop → List A → List A → Type 0
 ReadTo (Ok _) got all = got ≡ all
-ReadTo (Err (stop.Input f)) got all = got ≡ all
+ReadTo (Err (stop.Fault f)) got all = got ≡ all
 ReadTo (Err stop.OutOfMemory) got all = IsPrefixOf got all
 ReadTo (Err stop.ReadFault) got all = IsPrefixOf got all
 ReadTo (Err stop.WriteFault) got all = IsPrefixOf got all
@@ -73,35 +77,35 @@ Starts lim members (Ok ledger) = (start_verdict members lim.journal ≡ Ok tt) �
 Starts lim members (Err stop.OutOfMemory) = Unit {0}
 Starts lim members (Err stop.ReadFault) = ⊥
 Starts lim members (Err stop.WriteFault) = ⊥
-Starts lim members (Err (stop.Input f)) = (e : Refusal) × (start_verdict members lim.journal ≡ Err e)
-    × (f ≡ fault_at e 0)
+Starts lim members (Err (stop.Fault f)) = (why : Refusal) × (start_verdict members lim.journal ≡ Err why)
+    × (f ≡ fault_at why 0)
 
--- the stop of a refusal that ends a run: out of memory, or a fault of the input at 0
+-- the stop of a refusal that ends a run: out of memory, or a fault at 0
 abbrev pub stop_of : Refusal → Stop
-stop_of why.OutOfMemory = stop.OutOfMemory
-stop_of why = stop.Input (fault_at why 0)
+stop_of refusal.OutOfMemory = stop.OutOfMemory
+stop_of why = stop.Fault (fault_at why 0)
 
 -- the fault whose line is to be written; none after a failed write
 abbrev pub fault_of : Stop → Option Fault
-fault_of stop.OutOfMemory = Some (fault_at why.OutOfMemory 0)
-fault_of stop.ReadFault = Some (fault_at why.ReadFault 0)
+fault_of stop.OutOfMemory = Some (fault_at refusal.OutOfMemory 0)
+fault_of stop.ReadFault = Some (fault_at refusal.ReadFault 0)
 fault_of stop.WriteFault = None
-fault_of (stop.Input f) = Some f
+fault_of (stop.Fault f) = Some f
 
 -- out of memory or a failed read: a fault that is possible at any time and names no record
 abbrev pub IsBroken : Fault → Type 0
-IsBroken f = (f ≡ fault_at why.OutOfMemory 0) ⊎ (f ≡ fault_at why.ReadFault 0)
+IsBroken f = (f ≡ fault_at refusal.OutOfMemory 0) ⊎ (f ≡ fault_at refusal.ReadFault 0)
 
 -- the line of the fault was written, or the writer failed
 abbrev pub Ends : Option (List ℕ) → Option (List ℕ) → Fault → Fault → Type 0
 Ends old new f result =
     ((result ≡ f) × Appends old new (line_text (fault_line f)))
-    ⊎ ((result ≡ fault_at why.WriteFault 0) × AppendsFront old new (line_text (fault_line f)))
+    ⊎ ((result ≡ fault_at refusal.WriteFault 0) × AppendsFront old new (line_text (fault_line f)))
 
 -- the end of a run that stopped, by the fault of its stop
 abbrev pub EndsStopped : {A : Type 0} → Option (List ℕ) → Option (List ℕ) → Option Fault → Result A Fault → Type 0
 EndsStopped old new f (Ok a) = ⊥
-EndsStopped old new None (Err g) = (g ≡ fault_at why.WriteFault 0) × (new ≡ old)
+EndsStopped old new None (Err g) = (g ≡ fault_at refusal.WriteFault 0) × (new ≡ old)
 EndsStopped old new (Some f) (Err g) = Ends old new f g
 
 -- the end of a run: its value, and nothing more is written; or its fault, and that fault's line
@@ -112,4 +116,4 @@ EndsRun old new (Err e) result = EndsStopped old new (fault_of e) result
 -- the limits are out of range: the fault is BadLimit, or WriteFault if its line could not be
 -- written
 abbrev pub IsBadLimit : {A : Type 0} → Result A Fault → Type 0
-IsBadLimit r = (r ≡ Err (fault_at why.BadLimit 0)) ⊎ (r ≡ Err (fault_at why.WriteFault 0))
+IsBadLimit r = (r ≡ Err (fault_at refusal.BadLimit 0)) ⊎ (r ≡ Err (fault_at refusal.WriteFault 0))

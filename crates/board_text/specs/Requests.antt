@@ -1,12 +1,17 @@
 -- The meaning of the records of an input.
 use Rattle.std.specs.Prelude.{ℕ, List, [], ◌∷◌, Bool, false, ◌&&◌, Option, Some, None, if◌then◌else◌}
 use Rattle.std.specs.Prelude.{option_map, codes}
+use Rattle.std.specs.Option.{option_and_then, option_or}
 use Rattle.std.specs.Str.{bytes_eq}
+use Rattle.council_core.specs.Commands.{command_of_parts, form_of_kind, kind_of_word}
 use Rattle.council_core.specs.Sequential.{Call, ordered, read}
 use Rattle.council_core.specs.declared.calls.Order.TheVariants as order
 use Rattle.council_core.specs.declared.commands.Command.{Command}
-use Rattle.council_core.specs.declared.commands.Command.TheVariants.{Open, Close, Move, SetVotes, Suspend, Restore}
-use Rattle.council_core.specs.declared.commands.Command.TheVariants.{Admit, Withdraw}
+use Rattle.council_core.specs.declared.kinds.CommandKind.{CommandKind}
+use Rattle.council_core.specs.declared.kinds.Form.{Form}
+use Rattle.council_core.specs.declared.kinds.Form.TheVariants as form
+use Rattle.council_core.specs.declared.kinds.Parts.{Parts}
+use Rattle.council_core.specs.declared.kinds.Parts.TheVariants.{Chair, Member, Seat, Votes}
 use Rattle.board_text.specs.Numbers.{number_of_digits}
 use Rattle.majority_rule.specs.Majorities.{majority_of}
 use Rattle.board_text.specs.Words.{pair_of, chair_of, code_of_member, target_chair, votes_of}
@@ -32,29 +37,22 @@ abbrev pub member_of : Row → Option (List ℕ × ℕ)
 member_of (a ∷ b ∷ []) = pair_of (λ code votes. (code, votes)) (code_of_member a) (votes_of b)
 member_of _ = None
 
--- the command of a word and one field
-abbrev pub command_of_one : List ℕ → List ℕ → Option Command
-command_of_one word a =
-    if bytes_eq word (codes "open") then option_map Open (chair_of a)
-    else if bytes_eq word (codes "close") then option_map Close (chair_of a)
-    else if bytes_eq word (codes "suspend") then option_map Suspend (code_of_member a)
-    else if bytes_eq word (codes "restore") then option_map Restore (code_of_member a)
-    else if bytes_eq word (codes "withdraw") then option_map Withdraw (code_of_member a)
-    else None
+-- the parts of a command in this form, in the fields after its word
+abbrev pub parts_of_fields : Form → Row → Option Parts
+parts_of_fields form.Chair (a ∷ []) = option_map Chair (chair_of a)
+parts_of_fields form.Member (a ∷ []) = option_map Member (code_of_member a)
+parts_of_fields form.Seat (a ∷ b ∷ []) = pair_of Seat (code_of_member a) (target_chair b)
+parts_of_fields form.Votes (a ∷ b ∷ []) = pair_of Votes (code_of_member a) (votes_of b)
+parts_of_fields _ _ = None
 
--- the command of a word and two fields
-abbrev pub command_of_two : List ℕ → List ℕ → List ℕ → Option Command
-command_of_two word a b =
-    if bytes_eq word (codes "move") then pair_of Move (code_of_member a) (target_chair b)
-    else if bytes_eq word (codes "votes") then pair_of SetVotes (code_of_member a) (votes_of b)
-    else if bytes_eq word (codes "admit") then pair_of Admit (code_of_member a) (votes_of b)
-    else None
+-- the command of a kind with its parts in these fields
+abbrev pub command_of_kind : Row → CommandKind → Option Command
+command_of_kind fields kind = option_and_then (command_of_parts kind) (parts_of_fields (form_of_kind kind) fields)
 
--- the command of a record, if it is one of the nine command records
+-- the command of a record: the word of its kind, then its parts
 abbrev pub command_of : Row → Option Command
-command_of (word ∷ a ∷ []) = command_of_one word a
-command_of (word ∷ a ∷ b ∷ []) = command_of_two word a b
-command_of _ = None
+command_of (word ∷ fields) = option_and_then (command_of_kind fields) (kind_of_word word)
+command_of [] = None
 
 -- a reading by a numbered reader at a majority
 abbrev pub reading_of : Row → Option Request
@@ -68,11 +66,6 @@ abbrev pub is_publish : Row → Bool
 is_publish (word ∷ []) = bytes_eq word (codes "publish")
 is_publish _ = false
 
--- the first of two options that is present
-abbrev pub first_some : {A : Type 0} → Option A → Option A → Option A
-first_some None other = other
-first_some (Some a) other = Some a
-
 -- the request to submit a command
 abbrev pub submission : Command → Request
 submission command = ask.Order (order.Submit command)
@@ -80,7 +73,7 @@ submission command = ask.Order (order.Submit command)
 -- the request of a record in the script of `replay`, if it is well formed
 abbrev pub request_of : Row → Option Request
 request_of row = if is_publish row then Some (ask.Order order.Publish)
-    else first_some (reading_of row) (option_map submission (command_of row))
+    else option_or (reading_of row) (option_map submission (command_of row))
 
 -- the sequential register's call for a request
 abbrev pub call_of : Request → Call

@@ -1,6 +1,6 @@
 -- Bounds on the reads and the writes of a run.
 use Rattle.std.specs.Prelude.{◌≡◌, ◌⊎◌, ℕ, ◌+◌, Result, Ok, Err}
-use Rattle.council_core.specs.declared.refusals.Refusal.TheVariants as why
+use Rattle.council_core.specs.declared.refusals.Refusal.TheVariants as refusal
 use Rattle.board_text.specs.Text.{fault_at}
 use Rattle.board_text.specs.declared.faults.Fault.{Fault}
 use Rattle.board_text.specs.declared.input.TheConstants.{INTERRUPTIONS, READS}
@@ -17,8 +17,8 @@ one_more most = record most { interrupted = most.interrupted + 1 }
 abbrev pub most_reads : Calls
 most_reads = record { made = READS; empty = 1; interrupted = INTERRUPTIONS }
 
--- the most writes for this number of bytes. Each accepts a byte, or is interrupted and retried, or is the last: it accepts
--- none, fails, or is interrupted once too often
+-- the most writes for this number of bytes. Each accepts a byte, or is interrupted and retried, or is the last: it
+-- accepts none, fails, or is interrupted once too often
 abbrev pub most_writes : ℕ → Calls
 most_writes bytes = record { made = bytes + INTERRUPTIONS + 1; empty = 1; interrupted = INTERRUPTIONS + 1 }
 
@@ -33,7 +33,7 @@ IsReadFault e = e ≡ stop.ReadFault
 -- a device failed: the input (ReadFault) or the output (WriteFault, which also replaces a fault
 -- whose line can't be written)
 abbrev pub IsOfDevice : Fault → Type 0
-IsOfDevice f = (f ≡ fault_at why.ReadFault 0) ⊎ (f ≡ fault_at why.WriteFault 0)
+IsOfDevice f = (f ≡ fault_at refusal.ReadFault 0) ⊎ (f ≡ fault_at refusal.WriteFault 0)
 
 -- the calls of a run are within these bounds; one interruption more occurred only if the call that it interrupted
 -- failed for good, and the error tells of a failed device
@@ -46,7 +46,7 @@ abbrev pub most_reads_at : Stop → Calls
 most_reads_at stop.ReadFault = one_more most_reads
 most_reads_at stop.OutOfMemory = record most_reads { empty = 0 }
 most_reads_at stop.WriteFault = record most_reads { empty = 0 }
-most_reads_at (stop.Input f) = record most_reads { empty = 0 }
+most_reads_at (stop.Fault f) = record most_reads { empty = 0 }
 
 abbrev pub most_reads_by : {A : Type 0} → Result A Stop → Calls
 most_reads_by (Ok _) = most_reads

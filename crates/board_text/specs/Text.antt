@@ -71,8 +71,8 @@ request_within lim row = valid_or_refused (is_served lim) (request_of row)
 
 -- the contents of the records before the script: the members, the number of the script's first
 -- record, and its records
-abbrev pub Opened : Type 0
-Opened = Opening × ℕ × List Row
+abbrev pub Preamble : Type 0
+Preamble = Opening × ℕ × List Row
 
 -- the record is no member's
 abbrev pub is_no_member : Row → Bool
@@ -83,21 +83,21 @@ abbrev pub before_mark : List Row → List Row
 before_mark rows = before_first is_mark rows
 
 -- the fault of the bad record with this number, or else what follows
-abbrev pub unless_bad : Option ℕ → Result Opened Fault → Result Opened Fault
+abbrev pub unless_bad : Option ℕ → Result Preamble Fault → Result Preamble Fault
 unless_bad None more = more
 unless_bad (Some number) more = Err (fault_at BadRecord number)
 
 -- the members before the mark, and the script after it; the first of these records is number 2
-unfoldable pub opening_of : List Row → Result Opened Fault
-opening_of rows =
+unfoldable pub preamble_after_header : List Row → Result Preamble Fault
+preamble_after_header rows =
     unless_bad (position_from is_no_member 2 (take MAX_MEMBERS (before_mark rows)))
     (if nat_lt MAX_MEMBERS (length (before_mark rows)) then Err (fault_at TooManyMembers 0)
     else if list_any is_mark rows
     then Ok (filter_map member_of (before_mark rows), length (before_mark rows) + 3, after_first is_mark rows)
     else Err (fault_at NoScript 0))
 
--- the members that opening_of reads, also where it then meets a fault: at most MAX_MEMBERS of those before the mark, up
--- to the first record that is no member's
+-- the members that preamble_after_header reads, also where it then meets a fault: at most MAX_MEMBERS of those before
+-- the mark, up to the first record that is no member's
 unfoldable pub members_before : List Row → Opening
 members_before rows = filter_map member_of (before_first is_no_member (take MAX_MEMBERS (before_mark rows)))
 
@@ -109,18 +109,18 @@ ledger_at_start lim members = record { opening = members; journal = []; limit = 
 abbrev pub Started : Type 0
 Started = Ledger × ℕ × List Row
 
-abbrev pub started_with : Limits → Result ⊤ Refusal → Opened → Result Started Fault
+abbrev pub started_with : Limits → Result ⊤ Refusal → Preamble → Result Started Fault
 started_with lim (Err why) p = Err (fault_at why 0)
 started_with lim (Ok u) p = Ok (ledger_at_start lim p.0, p.1, p.2)
 
-abbrev pub started_after : Limits → Result Opened Fault → Result Started Fault
+abbrev pub started_after : Limits → Result Preamble Fault → Result Started Fault
 started_after lim (Err f) = Err f
 started_after lim (Ok p) = started_with lim (start_verdict p.0 lim.journal) p
 
 -- the members and the script of the records of an input, or the first fault before the script
-abbrev pub opened_of : List Row → Result Opened Fault
-opened_of [] = Err (fault_at BadHeader 0)
-opened_of (r ∷ rs) = if is_header r then opening_of rs else Err (fault_at BadHeader 0)
+abbrev pub preamble_of : List Row → Result Preamble Fault
+preamble_of [] = Err (fault_at BadHeader 0)
+preamble_of (r ∷ rs) = if is_header r then preamble_after_header rs else Err (fault_at BadHeader 0)
 
 -- the members of the records of an input, also where they meet a fault
 abbrev pub members_in : List Row → Opening
@@ -137,7 +137,7 @@ unfoldable pub started_of : Limits → List ℕ → Result Started Fault
 started_of lim bytes =
     if in_range lim
     then if nat_le (length bytes) INPUT_LIMIT
-    then started_after lim (opened_of (records default_config (strip_bom bytes)))
+    then started_after lim (preamble_of (records default_config (strip_bom bytes)))
     else Err (fault_at TooLong 0)
     else Err (fault_at BadLimit 0)
 

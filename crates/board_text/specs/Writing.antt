@@ -3,10 +3,11 @@ use Rattle.std.specs.Prelude.{ℕ, ◌≤◌, ◌<◌, ◌^◌, List, [], ◌∷
 use Rattle.std.specs.Prelude.{IfSome, codes, decimal}
 use Rattle.std.specs.List.{flat_map}
 use Rattle.council_core.specs.Codes.{IsCode}
+use Rattle.council_core.specs.Commands.{parts_of_command, word_of_kind}
 use Rattle.council_core.specs.declared.calls.Order.TheVariants as order
 use Rattle.council_core.specs.declared.commands.Command.{Command}
-use Rattle.council_core.specs.declared.commands.Command.TheVariants.{Open, Close, Move, SetVotes, Suspend, Restore}
-use Rattle.council_core.specs.declared.commands.Command.TheVariants.{Admit, Withdraw}
+use Rattle.council_core.specs.declared.kinds.Parts.{Parts}
+use Rattle.council_core.specs.declared.kinds.Parts.TheVariants.{Chair, Member, Seat, Votes}
 use Rattle.council_core.specs.declared.limits.TheConstants.{CHAIRS, MAX_VOTES}
 use Rattle.board_text.specs.Requests.{Row}
 use Rattle.majority_rule.specs.Majorities.{word_of_majority}
@@ -18,16 +19,16 @@ abbrev pub target_field : Option ℕ → List ℕ
 target_field None = codes "none"
 target_field (Some chair) = decimal chair
 
+-- the fields of a command's parts
+abbrev pub parts_row : Parts → Row
+parts_row (Chair chair) = decimal chair ∷ []
+parts_row (Member code) = code ∷ []
+parts_row (Seat code to) = code ∷ target_field to ∷ []
+parts_row (Votes code votes) = code ∷ decimal votes ∷ []
+
 -- the fields of a command
 abbrev pub command_row : Command → Row
-command_row (Open chair) = codes "open" ∷ decimal chair ∷ []
-command_row (Close chair) = codes "close" ∷ decimal chair ∷ []
-command_row (Move code to) = codes "move" ∷ code ∷ target_field to ∷ []
-command_row (SetVotes code votes) = codes "votes" ∷ code ∷ decimal votes ∷ []
-command_row (Suspend code) = codes "suspend" ∷ code ∷ []
-command_row (Restore code) = codes "restore" ∷ code ∷ []
-command_row (Admit code votes) = codes "admit" ∷ code ∷ decimal votes ∷ []
-command_row (Withdraw code) = codes "withdraw" ∷ code ∷ []
+command_row command = word_of_kind (parts_of_command command).0 ∷ parts_row (parts_of_command command).1
 
 -- the fields of a request
 abbrev pub request_row : Request → Row
@@ -55,16 +56,16 @@ written_rows members script = header_row ∷ map member_row members ++ mark_row 
 abbrev pub IsChair : ℕ → Type 0
 IsChair c = (1 ≤ c) × (c ≤ CHAIRS)
 
--- a command whose chair, code and votes are in range, as those of each value of the type are
+-- a chair, code and votes in range, as those of each value of the type are
+abbrev pub AreParts : Parts → Type 0
+AreParts (Chair chair) = IsChair chair
+AreParts (Member code) = IsCode code
+AreParts (Seat code to) = IsCode code × IfSome to IsChair
+AreParts (Votes code votes) = IsCode code × (votes ≤ MAX_VOTES)
+
+-- a command whose parts are in range
 abbrev pub IsCommand : Command → Type 0
-IsCommand (Open chair) = IsChair chair
-IsCommand (Close chair) = IsChair chair
-IsCommand (Move code to) = IsCode code × IfSome to IsChair
-IsCommand (SetVotes code votes) = IsCode code × (votes ≤ MAX_VOTES)
-IsCommand (Suspend code) = IsCode code
-IsCommand (Restore code) = IsCode code
-IsCommand (Admit code votes) = IsCode code × (votes ≤ MAX_VOTES)
-IsCommand (Withdraw code) = IsCode code
+IsCommand command = AreParts (parts_of_command command).1
 
 -- a request whose command is in range, and whose reader number fits 64 bits
 abbrev pub IsRequest : Request → Type 0

@@ -4,7 +4,7 @@ ghost use Rattle.board_text.specs.Text.{in_range, is_reader};
 
 use council_core::MAX_COMMANDS;
 
-/// The most readers of a run: as many as the two-copy machine has at most.
+/// The most readers of a run, which is also the most readers of the two-copy machine.
 pub const READERS: usize = 4;
 
 /// The limits of a run, chosen by its caller. Limits out of range are the fault `BadLimit` of the

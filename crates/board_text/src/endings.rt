@@ -1,6 +1,6 @@
 //! The end of a run.
 ghost use Rattle.board_text.specs.Output.{Ends, EndsRun};
-ghost use Rattle.board_text.specs.Sinks.{GoesOn};
+ghost use Rattle.board_text.specs.OutputStates.{IsSameOutput};
 
 use crate::faults::Fault;
 use crate::lines::line_of_fault;
@@ -12,8 +12,8 @@ use recording_io::Recorder;
 // Writes the line of a fault and returns that fault, or `WriteFault` at 0 if the line could not be
 // written.
 fn end_with<W: Recorder>(out: &mut Output<'_, W>, fault: Fault) -> Fault
-    ensures ends { Ends out.old.held out.new.held fault result }
-    ensures continues { GoesOn out.old out.new }
+    ensures ends { Ends out.old.contents out.new.contents fault result }
+    ensures same_output { IsSameOutput out.old out.new }
 {
     match out.write_line(line_of_fault(fault)) {
         Ok(()) => return fault,
@@ -32,8 +32,8 @@ pub fn end_run<T: Drop, W: Recorder>(
     out: &mut Output<'_, W>,
     carried: Result<T, Stop>,
 ) -> Result<T, Fault>
-    ensures ends { EndsRun out.old.held out.new.held carried result }
-    ensures continues { GoesOn out.old out.new }
+    ensures ends { EndsRun out.old.contents out.new.contents carried result }
+    ensures same_output { IsSameOutput out.old out.new }
 {
     let stop = match carried {
         Ok(done) => return Ok(done),

@@ -1,4 +1,4 @@
-//! The public error of a run.
+//! The error of a run that its caller gets.
 ghost use Rattle.std.specs.Prelude.{◌≡◌, ◌≤◌, length};
 ghost use Rattle.council_core.specs.Refusals.{refusal_of};
 ghost use Rattle.board_text.specs.Lines.{fault_name};
@@ -8,7 +8,7 @@ use council_core::Refusal;
 use std::error::Error;
 use std::fmt;
 
-/// The error that ended a run.
+/// The error that ended a run, once its line is written.
 #[derive(Clone, Copy, Debug, PartialEq, Eq)]
 pub struct Fault {
     /// The number of the refusal, as by `Refusal::code`.

@@ -1,7 +1,7 @@
 //! Reads the whole input before any record is interpreted.
 ghost use Rattle.std.specs.Prelude.{◌≡◌, ◌≤◌, ◌<◌, ◌+◌, length, IfOk, IfErr, ◌⊎◌, IsErrOf, IsOkUnless};
 ghost use Rattle.recording_io.specs.Tapes.{CallsWithin, OfInput};
-ghost use Rattle.council_core.specs.declared.refusals.Refusal.TheVariants as why;
+ghost use Rattle.council_core.specs.declared.refusals.Refusal.TheVariants as refusal;
 ghost use Rattle.board_text.specs.Inputs.{Reads};
 ghost use Rattle.board_text.specs.Streams.{most_reads_by};
 ghost use Rattle.board_text.specs.Text.{fault_at};
@@ -56,10 +56,10 @@ pub(crate) fn read_input<R: Read + Drop>(
 ) -> Result<Vec<u8>, Stop>
     ensures whole { IfOk result (λ text. OfInput input.old input.new (λ bytes. text.items ≡ bytes)) }
     ensures causes { IfErr result
-        (λ e. (e ≡ Stop.OutOfMemory) ⊎ (e ≡ Stop.ReadFault) ⊎ (e ≡ Stop.Input (fault_at why.TooLong 0))) }
+        (λ e. (e ≡ stop.OutOfMemory) ⊎ (e ≡ stop.ReadFault) ⊎ (e ≡ stop.Fault (fault_at refusal.TooLong 0))) }
     ensures reads { CallsWithin (most_reads_by result) input.old.calls input.new.calls }
     ensures fits { IfOk result (λ text. length text.items ≤ INPUT_LIMIT) }
-    ensures too_long { IsErrOf result (Stop.Input (fault_at why.TooLong 0))
+    ensures too_long { IsErrOf result (stop.Fault (fault_at refusal.TooLong 0))
         → OfInput input.old input.new (λ bytes. INPUT_LIMIT < length bytes) }
 {
     let mut text = Vec::new(alloc);

@@ -1,19 +1,19 @@
 //! Interprets an input: the part of a run that all three commands share.
 ghost use Rattle.std.specs.Prelude.{◌≡◌, ◌≤◌, ◌<◌, ◌+◌, ◌^◌, Ok, [], true, false, length, Result};
-ghost use Rattle.std.specs.Prelude.{IfOk, IsErrOf, OnOk, IsOkUnless};
+ghost use Rattle.std.specs.Prelude.{IfOk, IfErr, IsErrOf, OnOk, IsOkUnless};
 ghost use Rattle.recording_io.specs.Tapes.{OfInput};
 ghost use Rattle.council_core.specs.declared.refusals.Refusal.{Refusal};
-ghost use Rattle.council_core.specs.declared.refusals.Refusal.TheVariants as why;
+ghost use Rattle.council_core.specs.declared.refusals.Refusal.TheVariants as refusal;
 ghost use Rattle.csv.specs.Reading.{default_config, records, strip_bom};
 ghost use Rattle.csv.specs.Records.{fields_of};
 ghost use Rattle.council_core.specs.Ledgers.{Ledger};
 ghost use Rattle.board_text.specs.Streams.{IsReadFault, RunsWithin, most_reads};
-ghost use Rattle.board_text.specs.Output.{WritesRun};
-ghost use Rattle.board_text.specs.Sinks.{GoesOn};
+ghost use Rattle.board_text.specs.Output.{IsMemoryOrWrite, WritesRun};
+ghost use Rattle.board_text.specs.OutputStates.{IsSameOutput};
 ghost use Rattle.board_text.specs.Requests.{Row};
 ghost use Rattle.board_text.specs.Scripts.{Effect, started_course, course_of_script, interpreted_course};
 ghost use Rattle.board_text.specs.Scripts.{run_in, script_course};
-ghost use Rattle.board_text.specs.Text.{started_after, fault_at, in_range, opened_of, printed_run};
+ghost use Rattle.board_text.specs.Text.{started_after, fault_at, in_range, preamble_of, printed_run};
 ghost use Rattle.board_text.specs.declared.bounds.Limits.{Limits};
 ghost use Rattle.board_text.specs.declared.stops.Stop.TheVariants as stop;
 
@@ -45,7 +45,7 @@ use std::io::Read;
 /// - `effect` gives, for a state and what is asked for, the lines that are printed and the state
 ///   after it.
 ///
-/// and has three methods. `interpret` calls `open` once, with a register at its start, if the
+/// It has three methods. `interpret` calls `open` once, with a register at its start, if the
 /// limits are in range and no fault was found before the script. Then it calls `parse` and
 /// `carry_out` for each record, in order, until one returns an error. After an error none is called
 /// again, and the state is dropped.
@@ -73,7 +73,7 @@ pub trait Interpreter: Sized + Drop {
     ///
     /// `Stop::OutOfMemory`.
     fn open(alloc: Global, start: ScriptStart, limits: Limits) -> Result<Self, Stop>
-        requires starts { start.register.journal ≡ [] }
+        requires empty { start.register.journal ≡ [] }
         requires in_range { in_range limits ≡ true }
         ensures opened { IfOk result (λ interpreter. interpreter ≡ opened limits start.register) }
         ensures memory { IsOkUnless result stop.OutOfMemory };
@@ -90,16 +90,17 @@ pub trait Interpreter: Sized + Drop {
     ///
     /// # Errors
     ///
-    /// Out of memory or a failed device; the state is then unspecified.
+    /// `Stop::OutOfMemory` or `Stop::WriteFault`; the state is then unspecified.
     fn carry_out<W: Recorder>(
         &mut self,
         asked: Self::Asked,
         out: &mut Output<'_, W>,
     ) -> Result<(), Stop>
-        ensures wrote { WritesRun out.old.held out.new.held result
+        ensures wrote { WritesRun out.old.contents out.new.contents result
             (printed_run (effect self.old asked).0) }
         ensures state { OnOk result (self.new ≡ (effect self.old asked).1) }
-        ensures continues { GoesOn out.old out.new };
+        ensures causes { IfErr result IsMemoryOrWrite }
+        ensures same_output { IsSameOutput out.old out.new };
 }
 
 // Carries out the script's records in order. `first` is the number of the first.
@@ -112,10 +113,11 @@ fn interpret_script<I: Interpreter, W: Recorder>(
     out: &mut Output<'_, W>,
 ) -> Result<I, Stop>
     requires numbers { first + length script.old < 2 ^ 32 }
-    ensures wrote { WritesRun out.old.held out.new.held result
+    ensures wrote { WritesRun out.old.contents out.new.contents result
         (run_in (script_course (I.parsed limits) I.effect interpreter first script.old)) }
-    ensures ended { IfOk result (λ i. (script_course (I.parsed limits) I.effect interpreter first script.old).end ≡ Ok i) }
-    ensures continues { GoesOn out.old out.new }
+    ensures ended { IfOk result
+        (λ i. (script_course (I.parsed limits) I.effect interpreter first script.old).end ≡ Ok i) }
+    ensures same_output { IsSameOutput out.old out.new }
 {
     let mut number = first;
     'records: loop {
@@ -140,13 +142,13 @@ fn interpret_text<I: Interpreter, W: Recorder>(
 ) -> Result<I, Stop>
     requires short { length text.now ≤ INPUT_LIMIT }
     requires in_range { in_range limits ≡ true }
-    ensures wrote { WritesRun out.old.held out.new.held result
+    ensures wrote { WritesRun out.old.contents out.new.contents result
         (run_in (started_course (course_of_script I.opened I.parsed I.effect limits)
-        (started_after limits (opened_of (records default_config (strip_bom text.now)))))) }
+        (started_after limits (preamble_of (records default_config (strip_bom text.now)))))) }
     ensures ended { IfOk result
         (λ i. (started_course (course_of_script I.opened I.parsed I.effect limits)
-        (started_after limits (opened_of (records default_config (strip_bom text.now))))).end ≡ Ok i) }
-    ensures continues { GoesOn out.old out.new }
+        (started_after limits (preamble_of (records default_config (strip_bom text.now))))).end ≡ Ok i) }
+    ensures same_output { IsSameOutput out.old out.new }
 {
     let mut script = Script::new(alloc, text);
     let mut row = ByteRecord::new(alloc);
@@ -168,14 +170,14 @@ pub fn interpret<I: Interpreter, R: Read + Drop, W: Recorder>(
     limits: Limits,
 ) -> Result<I, Stop>
     ensures wrote { OfInput input.old input.new
-        (λ bytes. WritesRun out.old.held out.new.held result
+        (λ bytes. WritesRun out.old.contents out.new.contents result
         (run_in (interpreted_course I.opened I.parsed I.effect limits bytes))) }
     ensures ended { OfInput input.old input.new
         (λ bytes. IfOk result (λ i. (interpreted_course I.opened I.parsed I.effect limits bytes).end ≡ Ok i)) }
     ensures limits_first { in_range limits ≡ false
-        → IsErrOf result (stop.Input (fault_at why.BadLimit 0)) × (input.new ≡ input.old) }
+        → IsErrOf result (stop.Fault (fault_at refusal.BadLimit 0)) × (input.new ≡ input.old) }
     ensures reads { RunsWithin IsReadFault most_reads input.old.calls input.new.calls result }
-    ensures continues { GoesOn out.old out.new }
+    ensures same_output { IsSameOutput out.old out.new }
 {
     let text = read_within(alloc, input, limits)?;
     interpret_text::<I, W>(alloc, text.as_slice(), limits, out)

@@ -30,7 +30,7 @@ pub fn member_law()
 /// The text of an input with at most `MAX_MEMBERS` members and any script of requests, any of its
 /// fields quoted, opens with these members, and its script has the records of these requests.
 pub fn input_law()
-    ensures opened { InputLaw }
+    ensures read_back { InputLaw }
 {}
 
 /// The lines of two readings are equal only if the readings are: the reader, the majority and the

@@ -1,5 +1,10 @@
-//! The text of a run: parses the bytes of an input into records and requests, and formats replies
-//! as the lines and bytes of an output.
+//! The text of a run: reads the bytes of an input, parses them into records, carries these out one
+//! by one on an `Interpreter`, and writes the lines of an output.
+//!
+//! Three types say why something ended. A `Refusal` is the reason alone: of a call, or of a record
+//! that asks for nothing. A `Stop` ends a run before the line of its fault is written. `end_run`
+//! writes that line, and returns the `Fault` to the caller: the number of the reason and the number
+//! of the record.
 #![tactic(auto)]
 
 mod bounds;
@@ -31,7 +36,7 @@ pub use lines::{
     line_of_answer, line_of_audit, line_of_chair, line_of_count, line_of_fault, line_of_reading,
 };
 pub use numbers::number_of_field;
-pub use opening::read_opening;
+pub use opening::read_preamble;
 pub use output::{Output, say};
 pub use requests::{Request, command_of_one, command_of_two, request_in};
 pub use script::Script;

@@ -1,7 +1,7 @@
-//! Reads the records before the script.
+//! Reads the preamble: the records before the script.
 ghost use Rattle.std.specs.Prelude.{◌≡◌, ◌≤◌, ◌<◌, ◌+◌, ◌^◌, [], Ok, length, IfOk, IfErr};
 ghost use Rattle.board_text.specs.Output.{Fails, ReadTo};
-ghost use Rattle.board_text.specs.Text.{members_before, members_in, opened_of, opening_of};
+ghost use Rattle.board_text.specs.Text.{members_before, members_in, preamble_of, preamble_after_header};
 
 use crate::requests::{is_header_row, is_mark_row, member_in};
 use crate::script::Script;
@@ -18,8 +18,8 @@ fn read_members(
 ) -> Result<u32, Stop>
     requires none { members.old.items ≡ [] }
     requires short { length script.old < 2 ^ 31 }
-    ensures opened { IfOk result (λ n. opening_of script.old ≡ Ok (members.new.items, n, script.new)) }
-    ensures fault { IfErr result (λ e. Fails e (opening_of script.old)) }
+    ensures preamble { IfOk result (λ n. preamble_after_header script.old ≡ Ok (members.new.items, n, script.new)) }
+    ensures fault { IfErr result (λ e. Fails e (preamble_after_header script.old)) }
     ensures members { ReadTo result members.new.items (members_before script.old) }
     ensures numbers { IfOk result (λ n. n + length script.new ≤ 2 + length script.old) }
 {
@@ -42,21 +42,21 @@ fn read_members(
     }
 }
 
-/// Reads the header, and the members' records up to the mark and including it, and returns the number
-/// of the next record. What was read before an error stays in `members`, which was empty.
+/// Reads the preamble: the header, and the members' records up to the mark and including it.
+/// Returns the number of the next record. What was read before an error stays in `members`, which was empty.
 ///
 /// # Errors
 ///
 /// Those of `start_script` down to `NoScript`, `Stop::OutOfMemory` and `Stop::ReadFault`.
-pub fn read_opening(
+pub fn read_preamble(
     script: &mut Script<'_>,
     row: &mut ByteRecord,
     members: &mut Vec<(MemberCode, Votes)>,
 ) -> Result<u32, Stop>
     requires none { members.old.items ≡ [] }
     requires short { length script.old < 2 ^ 31 }
-    ensures opened { IfOk result (λ n. opened_of script.old ≡ Ok (members.new.items, n, script.new)) }
-    ensures fault { IfErr result (λ e. Fails e (opened_of script.old)) }
+    ensures preamble { IfOk result (λ n. preamble_of script.old ≡ Ok (members.new.items, n, script.new)) }
+    ensures fault { IfErr result (λ e. Fails e (preamble_of script.old)) }
     ensures members { ReadTo result members.new.items (members_in script.old) }
     ensures numbers { IfOk result (λ n. n + length script.new < 2 ^ 32) }
 {

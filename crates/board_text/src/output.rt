@@ -3,7 +3,7 @@ ghost use Rattle.std.specs.Prelude.{◌≡◌, ◌⊎◌, ◌≤◌, ◌+◌, So
 ghost use Rattle.std.specs.Io.KnownBytes.{Appends};
 ghost use Rattle.recording_io.specs.Tapes.{IsSameWriter};
 ghost use Rattle.board_text.specs.Output.{AppendsFront, Writes, WritesSome};
-ghost use Rattle.board_text.specs.Sinks.{AsksAtMost, GoesOn, NoWriteInVain};
+ghost use Rattle.board_text.specs.OutputStates.{CallsAtMost, IsSameOutput, EachWriteAccepts};
 ghost use Rattle.board_text.specs.Streams.{WritesWithin};
 ghost use Rattle.board_text.specs.Text.{line_text};
 
@@ -29,16 +29,16 @@ pub struct Output<'a, W: Recorder> {
 
 impl<'a, W: Recorder> Model for Output<'a, W> {
     ghost use Rattle.std.specs.Prelude.{◌≤◌, Some};
-    ghost use Rattle.board_text.specs.Sinks.{IsWrittenBy, Sink};
+    ghost use Rattle.board_text.specs.OutputStates.{IsWrittenBy, OutputState};
     ghost use Rattle.board_text.specs.declared.input.TheConstants.{INTERRUPTIONS};
 
-    ghost Value = { Sink };
+    ghost Value = { OutputState };
 
     ghost view = { λ o. record {
-      lender = o.out.ghost_name;
+      writer = o.out.ghost_name;
       start = W.recorded o.start.value;
       now = W.recorded o.out.now;
-      held = Some (W.recorded o.out.now).bytes;
+      contents = Some (W.recorded o.out.now).bytes;
       retried = o.interrupted;
       failed = o.failed;
     } };
@@ -56,9 +56,9 @@ impl<W: Recorder> Debug for Output<'_, W> {
 impl<'a, W: Recorder> Output<'a, W> {
     /// An output over `out`, with no retries used.
     pub fn new(out: &'a mut W) -> Output<'a, W>
-        ensures lender { result.lender ≡ out.entry.ghost_name }
+        ensures writer { result.writer ≡ out.entry.ghost_name }
         ensures start { result.start ≡ W.recorded out.entry.now }
-        ensures held { result.held ≡ Some (W.recorded out.entry.now).bytes }
+        ensures contents { result.contents ≡ Some (W.recorded out.entry.now).bytes }
     {
         let start = Snapshot::of(&*out);
         Output {
@@ -71,8 +71,8 @@ impl<'a, W: Recorder> Output<'a, W> {
 
     /// Returns the borrowed writer. Writes nothing.
     pub fn into_inner(self) -> &'a mut W
-        ensures lender { result.ghost_name ≡ self.entry.lender }
-        ensures held { Some (W.recorded result.now).bytes ≡ self.entry.held }
+        ensures writer { result.ghost_name ≡ self.entry.writer }
+        ensures contents { Some (W.recorded result.now).bytes ≡ self.entry.contents }
         ensures same { IsSameWriter self.entry.start (W.recorded result.now) }
         ensures writes { WritesWithin self.entry.start (W.recorded result.now) }
     {
@@ -85,12 +85,12 @@ impl<'a, W: Recorder> Output<'a, W> {
     fn write_some(&mut self, text: &[u8]) -> Result<usize, Stop>
         requires live { self.old.failed ≡ false }
         ensures once { self.new.now.calls.made ≡ self.old.now.calls.made + 1 }
-        ensures vain { NoWriteInVain self.old self.new result }
-        ensures taken { WritesSome self.old.held self.new.held result text.now }
+        ensures accepts { EachWriteAccepts self.old self.new result }
+        ensures accepted { WritesSome self.old.contents self.new.contents result text.now }
         ensures turn { IfOk result (λ n. self.old.retried + 1 ≤ n + self.new.retried) }
         ensures bound { self.new.retried ≤ INTERRUPTIONS }
         ensures live { MatchResult result (λ _. self.new.failed ≡ false) (λ _. self.new.failed ≡ true) }
-        ensures continues { GoesOn self.old self.new }
+        ensures same_output { IsSameOutput self.old self.new }
     {
         match self.out.write_once(text) {
             Ok(n) if n > 0 => return Ok(n),
@@ -109,11 +109,11 @@ impl<'a, W: Recorder> Output<'a, W> {
     // accepts a byte or is an interruption that is retried. So there are no more writes than bytes
     // and retries, and none after a write that failed or accepted nothing.
     pub(crate) fn write_text(&mut self, text: &[u8]) -> Result<(), Stop>
-        ensures written { Writes self.old.held self.new.held result text.now }
-        ensures asks { AsksAtMost self.old self.new (length text.now) }
-        ensures vain { NoWriteInVain self.old self.new result }
+        ensures written { Writes self.old.contents self.new.contents result text.now }
+        ensures calls { CallsAtMost self.old self.new (length text.now) }
+        ensures accepts { EachWriteAccepts self.old self.new result }
         ensures failed { IfErr result (λ _. self.new.failed ≡ true) }
-        ensures continues { GoesOn self.old self.new }
+        ensures same_output { IsSameOutput self.old self.new }
     {
         if self.failed {
             return Err(Stop::WriteFault);
@@ -131,10 +131,10 @@ impl<'a, W: Recorder> Output<'a, W> {
 
     // Writes the text, or a prefix of it if the writer fails.
     fn write_front(&mut self, text: &[u8])
-        ensures front { AppendsFront self.old.held self.new.held text.now }
-        ensures whole_or_failed { Appends self.old.held self.new.held text.now ⊎ (self.new.failed ≡ true) }
-        ensures asks { AsksAtMost self.old self.new (length text.now) }
-        ensures continues { GoesOn self.old self.new }
+        ensures front { AppendsFront self.old.contents self.new.contents text.now }
+        ensures whole_or_failed { Appends self.old.contents self.new.contents text.now ⊎ (self.new.failed ≡ true) }
+        ensures calls { CallsAtMost self.old self.new (length text.now) }
+        ensures same_output { IsSameOutput self.old self.new }
     {
         let _ = self.write_text(text);
     }
@@ -148,10 +148,10 @@ impl<'a, W: Recorder> Output<'a, W> {
     /// write of this output that failed, nothing is.
     pub fn write_line(&mut self, mut line: Line) -> Result<(), Stop>
         requires room { length line + 1 ≤ LINE }
-        ensures written { Writes self.old.held self.new.held result (line_text line) }
-        ensures asks { AsksAtMost self.old self.new (length (line_text line)) }
-        ensures vain { NoWriteInVain self.old self.new result }
-        ensures continues { GoesOn self.old self.new }
+        ensures written { Writes self.old.contents self.new.contents result (line_text line) }
+        ensures calls { CallsAtMost self.old self.new (length (line_text line)) }
+        ensures accepts { EachWriteAccepts self.old self.new result }
+        ensures same_output { IsSameOutput self.old self.new }
     {
         line.end();
         self.write_text(line.as_bytes())

@@ -1,10 +1,9 @@
 //! Parses the records of an input.
-ghost use Rattle.std.specs.Prelude.{◌≡◌, option_map};
+ghost use Rattle.std.specs.Prelude.{◌≡◌, [], ◌∷◌, option_map};
 ghost use Rattle.std.specs.Option.{ok_or};
 ghost use Rattle.council_core.specs.declared.refusals.Refusal.TheVariants.{BadRecord};
 ghost use Rattle.csv.specs.Records.{fields_of};
-ghost use Rattle.board_text.specs.Requests.{command_of_one, command_of_two, is_header, is_mark, member_of};
-ghost use Rattle.board_text.specs.Requests.{submission};
+ghost use Rattle.board_text.specs.Requests.{command_of, is_header, is_mark, member_of, parts_of_fields, submission};
 ghost use Rattle.board_text.specs.Numbers.{number_of_digits};
 ghost use Rattle.board_text.specs.declared.requests.Request.TheVariants.{Read};
 ghost use Rattle.board_text.specs.Text.{is_served, request_within, valid_or_refused};
@@ -14,7 +13,7 @@ ghost use Rattle.board_text.specs.Words.{pair_of, chair_of, code_of_member, targ
 use crate::bounds::Limits;
 use crate::fields::{Fields, fields_in, is_word};
 use crate::numbers::number_of_field;
-use council_core::{ChairId, Command, MemberCode, Order, Refusal, Votes};
+use council_core::{ChairId, Command, CommandKind, Form, MemberCode, Order, Parts, Refusal, Votes};
 use csv::ByteRecord;
 use majority_rule::Majority;
 
@@ -63,45 +62,54 @@ fn seat_in(field: &[u8]) -> Option<Option<ChairId>>
     Some(Some(chair))
 }
 
+// The parts of a command in this form that one field gives.
+fn parts_in_one(form: Form, field: &[u8]) -> Option<Parts>
+    ensures { result ≡ parts_of_fields form (field.now ∷ []) }
+{
+    match form {
+        Form::Chair => Some(Parts::Chair(chair_in(field)?)),
+        Form::Member => Some(Parts::Member(code_in(field)?)),
+        Form::Seat | Form::Votes => None,
+    }
+}
+
+// The parts of a command in this form that two fields give.
+fn parts_in_two(form: Form, first: &[u8], second: &[u8]) -> Option<Parts>
+    ensures { result ≡ parts_of_fields form (first.now ∷ second.now ∷ []) }
+{
+    match form {
+        Form::Chair | Form::Member => None,
+        Form::Seat => {
+            let code = code_in(first)?;
+            Some(Parts::Seat(code, seat_in(second)?))
+        }
+        Form::Votes => {
+            let code = code_in(first)?;
+            Some(Parts::Votes(code, votes_in(second)?))
+        }
+    }
+}
+
 /// The command of a word and one field; `None` if they aren't well formed.
 pub fn command_of_one(word: &[u8], argument: &[u8]) -> Option<Command>
-    ensures { result ≡ command_of_one word.now argument.now }
+    ensures { result ≡ command_of (word.now ∷ argument.now ∷ []) }
 {
-    if is_word(word, "open") {
-        return Some(Command::Open(chair_in(argument)?));
-    }
-    if is_word(word, "close") {
-        return Some(Command::Close(chair_in(argument)?));
-    }
-    if is_word(word, "suspend") {
-        return Some(Command::Suspend(code_in(argument)?));
-    }
-    if is_word(word, "restore") {
-        return Some(Command::Restore(code_in(argument)?));
-    }
-    if is_word(word, "withdraw") {
-        return Some(Command::Withdraw(code_in(argument)?));
-    }
-    None
+    // The prover needs this line, since parts have a chair.
+    let _nowhere: Option<ChairId> = None;
+    let kind = CommandKind::from_word(word)?;
+    let parts = parts_in_one(kind.form(), argument)?;
+    Command::from_parts(kind, parts)
 }
 
 /// The command of a word and two fields; `None` if they aren't well formed.
 pub fn command_of_two(word: &[u8], first: &[u8], second: &[u8]) -> Option<Command>
-    ensures { result ≡ command_of_two word.now first.now second.now }
+    ensures { result ≡ command_of (word.now ∷ first.now ∷ second.now ∷ []) }
 {
-    if is_word(word, "move") {
-        let code = code_in(first)?;
-        return Some(Command::Move(code, seat_in(second)?));
-    }
-    if is_word(word, "votes") {
-        let code = code_in(first)?;
-        return Some(Command::SetVotes(code, votes_in(second)?));
-    }
-    if is_word(word, "admit") {
-        let code = code_in(first)?;
-        return Some(Command::Admit(code, votes_in(second)?));
-    }
-    None
+    // The prover needs this line, since parts have a chair.
+    let _nowhere: Option<ChairId> = None;
+    let kind = CommandKind::from_word(word)?;
+    let parts = parts_in_two(kind.form(), first, second)?;
+    Command::from_parts(kind, parts)
 }
 
 // The request to submit a command, if there is one.

@@ -7,6 +7,7 @@ ghost use Rattle.csv.specs.Records.{fields_of};
 ghost use Rattle.csv.specs.declared.reader.Trim.TheVariants as trim;
 ghost use Rattle.csv.specs.declared.error.ErrorKind.TheVariants as kind;
 ghost use Rattle.board_text.specs.Script.{IsMemoryOrRead, records_left};
+ghost use Rattle.board_text.specs.declared.stops.Stop.TheVariants as stop;
 
 use crate::stops::Stop;
 use csv::{ByteRecord, Error, ErrorKind, Reader, ReaderBuilder};
@@ -66,8 +67,8 @@ impl<'a> Script<'a> {
     /// `Stop::OutOfMemory` or `Stop::ReadFault`. Nothing is promised of `row` or of the records
     /// that are left.
     pub fn next(&mut self, row: &mut ByteRecord) -> Result<bool, Stop>
-        ensures causes { IfErr result (λ e. (e ≡ Stop.OutOfMemory) ⊎ (e ≡ Stop.ReadFault)) }
-        ensures taken { IfOk result
+        ensures causes { IfErr result (λ e. (e ≡ stop.OutOfMemory) ⊎ (e ≡ stop.ReadFault)) }
+        ensures read { IfOk result
             (λ found. MatchBool found (self.old ≡ fields_of row.new ∷ self.new) (self.old ≡ [])) }
     {
         match self.reader.read_byte_record(row) {
@@ -81,8 +82,8 @@ impl<'a> Script<'a> {
 // accepts records of any length.
 fn cause_of(e: &Error) -> Stop
     requires { IsMemoryOrRead (error_kind e.now) }
-    ensures causes { (result ≡ Stop.OutOfMemory) ⊎ (result ≡ Stop.ReadFault) }
-    ensures memory { (result ≡ Stop.OutOfMemory) ↔ (error_kind e.now ≡ kind.OutOfMemory) }
+    ensures causes { (result ≡ stop.OutOfMemory) ⊎ (result ≡ stop.ReadFault) }
+    ensures memory { (result ≡ stop.OutOfMemory) ↔ (error_kind e.now ≡ kind.OutOfMemory) }
 {
     match e.kind() {
         ErrorKind::OutOfMemory => Stop::OutOfMemory,

@@ -2,14 +2,15 @@
 ghost use Rattle.std.specs.Prelude.{◌≡◌, ◌≤◌, ◌<◌, ◌+◌, ◌^◌, [], Ok, true, false, length};
 ghost use Rattle.std.specs.Prelude.{IfOk, IfErr, IsErrOf, OnOk};
 ghost use Rattle.recording_io.specs.Tapes.{CallsWithin, OfInput};
-ghost use Rattle.council_core.specs.declared.refusals.Refusal.TheVariants as why;
+ghost use Rattle.council_core.specs.declared.refusals.Refusal.TheVariants as refusal;
 ghost use Rattle.board_text.specs.Streams.{most_reads_by};
 ghost use Rattle.board_text.specs.Output.{Fails, Starts};
-ghost use Rattle.board_text.specs.Text.{started_of, started_after, fault_at, in_range, opened_of};
+ghost use Rattle.board_text.specs.Text.{started_of, started_after, fault_at, in_range, preamble_of};
+ghost use Rattle.board_text.specs.declared.stops.Stop.TheVariants as stop;
 
 use crate::bounds::Limits;
 use crate::input::{INPUT_LIMIT, read_input};
-use crate::opening::read_opening;
+use crate::opening::read_preamble;
 use crate::script::Script;
 use crate::stops::Stop;
 use council_core::{MemberCode, Refusal, Register, Votes};
@@ -31,9 +32,9 @@ pub struct ScriptStart {
 ///
 /// # Errors
 ///
-/// - `Stop::Input` with `BadLimit` at 0: a limit is out of range. Nothing was read.
+/// - `Stop::Fault` with `BadLimit` at 0: a limit is out of range. Nothing was read.
 /// - `Stop::ReadFault`: a read failed, or was interrupted after `INTERRUPTIONS` retries.
-/// - `Stop::Input` with `TooLong` at 0: the input has more than `INPUT_LIMIT` bytes.
+/// - `Stop::Fault` with `TooLong` at 0: the input has more than `INPUT_LIMIT` bytes.
 /// - `Stop::OutOfMemory`.
 ///
 /// After the last three some of the input may have been read, and none of it is returned.
@@ -48,7 +49,7 @@ pub fn read_within<R: Read + Drop>(
     ensures reads { CallsWithin (most_reads_by result) input.old.calls input.new.calls }
     ensures fault { IfErr result (λ e. OfInput input.old input.new (λ bytes. Fails e (started_of limits bytes))) }
     ensures limits_first { in_range limits ≡ false
-        → IsErrOf result (Stop.Input (fault_at why.BadLimit 0)) × (input.new ≡ input.old) }
+        → IsErrOf result (stop.Fault (fault_at refusal.BadLimit 0)) × (input.new ≡ input.old) }
 {
     if !limits.is_in_range() {
         return Err(Stop::at(Refusal::BadLimit, 0));
@@ -72,7 +73,7 @@ fn start_register(
 ///
 /// # Errors
 ///
-/// All are `Stop::Input` except the last two. They are checked in this order; those of the members'
+/// All are `Stop::Fault` except the last two. They are checked in this order; those of the members'
 /// records one record after another.
 ///
 /// - `BadHeader` at 0: there is no first record, or it isn't `member,votes`.
@@ -92,15 +93,15 @@ pub fn start_script(
 
     // The contents of the records, or the first fault in them.
     ensures start { IfOk result
-        (λ b. started_after limits (opened_of script.old) ≡ Ok (b.register, b.first, script.new)) }
-    ensures fault { IfErr result (λ e. Fails e (started_after limits (opened_of script.old))) }
+        (λ b. started_after limits (preamble_of script.old) ≡ Ok (b.register, b.first, script.new)) }
+    ensures fault { IfErr result (λ e. Fails e (started_after limits (preamble_of script.old))) }
 
     // The register is at its start, and the remaining records can be numbered.
-    ensures starts { IfOk result (λ b. b.register.journal ≡ []) }
+    ensures empty { IfOk result (λ b. b.register.journal ≡ []) }
     ensures numbers { IfOk result (λ b. b.first + length script.new < 2 ^ 32) }
 {
     let mut members = Vec::new(alloc);
-    let first = read_opening(script, row, &mut members)?;
+    let first = read_preamble(script, row, &mut members)?;
     let register = start_register(alloc, members.as_slice(), limits)?;
     Ok(ScriptStart { register, first })
 }

@@ -9,7 +9,8 @@ use council_core::Refusal;
 use std::alloc::{AllocError, AllocFailed};
 use thiserror::Error;
 
-/// An error that ends a run: out of memory, a failed device, or a fault of the input.
+/// What ends a run, before the line of its fault is written: out of memory, a failed device, or any
+/// other fault.
 #[derive(Clone, Copy, Debug, PartialEq, Eq, Error)]
 pub enum Stop {
     /// Out of memory.
@@ -22,17 +23,18 @@ pub enum Stop {
     /// written after it.
     #[error("the output could not be written")]
     WriteFault,
-    /// A fault of the input, at the number of a record or at 0.
+    /// Any other fault: of the limits, of the input, a closed gate, or a mismatch. Its place is the
+    /// number of a record, or 0.
     #[error("{0}")]
-    Input(Fault),
+    Fault(Fault),
 }
 
 impl Stop {
-    /// A fault of the input: a refusal at the number of a record, or at 0.
+    /// The fault of this refusal at the number of a record, or at 0.
     pub fn at(why: Refusal, number: u32) -> Stop
-        ensures same { result ≡ Stop.Input (fault_at why number) }
+        ensures same { result ≡ Stop.Fault (fault_at why number) }
     {
-        Stop::Input(Fault::new(why, number))
+        Stop::Fault(Fault::new(why, number))
     }
 
     /// The fault whose line is to be written; `None` after a failed write. Out of memory and a
@@ -44,7 +46,7 @@ impl Stop {
             Stop::OutOfMemory => Some(Fault::new(Refusal::OutOfMemory, 0)),
             Stop::ReadFault => Some(Fault::new(Refusal::ReadFault, 0)),
             Stop::WriteFault => None,
-            Stop::Input(fault) => Some(fault),
+            Stop::Fault(fault) => Some(fault),
         }
     }
 }
@@ -68,7 +70,7 @@ impl<T: Drop> From<AllocFailed<T>> for Stop {
 impl From<Refusal> for Stop {
     ghost from_gives = { λ why stop. stop ≡ stop_of why };
 
-    /// The stop of a refusal that ends a run: out of memory, or a fault of the input at 0.
+    /// The stop of a refusal that ends a run: out of memory, or a fault at 0.
     fn from(why: Refusal) -> Stop {
         match why {
             Refusal::OutOfMemory => Stop::OutOfMemory,

@@ -2,14 +2,14 @@
 use Rattle.std.proofs.Common.{◌≡◌, ◌≤◌, ◌++◌, ℕ, true, false, List, [], ◌∷◌, map, replicate, refl, subst, sym, arith, None, Some}
 use Rattle.std.specs.Prelude.{IsTrue, ◌↔◌}
 use Rattle.majority_rule.specs.declared.majorities.Majority.{Majority}
-use Rattle.majority_rule.specs.declared.majorities.Majority.TheVariants.{Half, Seventy, EightyFive, Quorum}
+use Rattle.majority_rule.specs.declared.majorities.Majority.TheVariants.{Half}
 use Rattle.majority_rule.specs.Winning.{rule_of, wins}
 use Rattle.council_core.specs.Coalitions.{omega_of}
 use Rattle.council_core.specs.Sheets.{IsSheet, open_chairs}
 use Rattle.c_values.specs.declared.counts.BoardAllCounts.{BoardAllCounts}
 use Rattle.c_values.specs.declared.counts.BoardChair.{BoardChair}
 use Rattle.c_values.specs.declared.counts.BoardCounts.{BoardCounts}
-use Rattle.c_values.specs.Counts.{AreCountsOf, ShowsAllCounts, ShowsCounts, chair_row, majority_number, majority_numbered, no_chair}
+use Rattle.c_values.specs.Counts.{AreCountsOf, ShowsAllCounts, ShowsCounts, chair_row, no_chair}
 
 -- chairs 2, 4, 6 and 9 with 40, 30, 15 and 5 of 100 votes, after 11 commands: all numbers of the counts are different
 abbrev four : List ℕ
@@ -17,12 +17,6 @@ four = 0 ∷ 41 ∷ 0 ∷ 31 ∷ 0 ∷ 16 ∷ 0 ∷ 0 ∷ 6 ∷ replicate 23 0 +
 
 abbrev row : ℕ → ℕ → ℕ → BoardChair
 row chair weight swings = record { chair = chair; weight = weight; swings = swings }
-
-numbers : (majority_numbered 0 ≡ Some Half) × (majority_numbered 1 ≡ Some Seventy) × (majority_numbered 2 ≡ Some EightyFive) × (majority_numbered 3 ≡ Some Quorum) × (majority_numbered 4 ≡ None)
-numbers = (refl, refl, refl, refl, refl)
-
-numbers_of_majorities : (majority_number Half ≡ 0) × (majority_number Seventy ≡ 1) × (majority_number EightyFive ≡ 2) × (majority_number Quorum ≡ 3)
-numbers_of_majorities = (refl, refl, refl, refl)
 
 -- where no chair is open, all 32 rows are zeros
 no_rows : (counts : BoardCounts) → AreCountsOf Half (replicate 34 0) counts → counts.rows ≡ replicate 32 no_chair

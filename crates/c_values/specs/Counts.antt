@@ -1,27 +1,16 @@
--- The majority with a number, and the counts of a sheet that a caller gets.
+-- The counts of a sheet that a caller gets.
 use Rattle.std.specs.Prelude.{◌≡◌, ℕ, ◌-◌, ◌^◌, ◌≤◌, ◌↔◌}
-use Rattle.std.specs.Prelude.{IsTrue, Option, Some, List, ◌++◌, length, map, replicate, slice_get}
+use Rattle.std.specs.Prelude.{IsTrue, Some, List, ◌++◌, length, map, replicate}
 use Rattle.council_core.specs.declared.limits.TheConstants.{CHAIRS, SHEET_WORDS}
 use Rattle.council_core.specs.Sheets.{Chair, open_chairs, cast_of, total_of, IsSheet}
 use Rattle.council_core.specs.Coalitions.{Rule, omega_of, eta_of}
 use Rattle.majority_rule.specs.declared.majorities.Majority.{Majority}
 use Rattle.majority_rule.specs.declared.majorities.Majority.TheVariants.{Half, Seventy, EightyFive, Quorum}
-use Rattle.majority_rule.specs.Majorities.{every_majority}
+use Rattle.majority_rule.specs.Majorities.{majority_numbered}
 use Rattle.majority_rule.specs.Winning.{wins, rule_of}
 use Rattle.c_values.specs.declared.counts.BoardChair.{BoardChair}
 use Rattle.c_values.specs.declared.counts.BoardCounts.{BoardCounts}
 use Rattle.c_values.specs.declared.counts.BoardAllCounts.{BoardAllCounts}
-
--- the majority with this number, or None
-abbrev pub majority_numbered : ℕ → Option Majority
-majority_numbered n = slice_get every_majority n
-
--- the number of a majority
-abbrev pub majority_number : Majority → ℕ
-majority_number Half = 0
-majority_number Seventy = 1
-majority_number EightyFive = 2
-majority_number Quorum = 3
 
 -- words are a complete sheet, each in its range
 pub record IsSheetInRange (words : List ℕ) : Type 0 where

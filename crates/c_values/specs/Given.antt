@@ -1,17 +1,22 @@
--- What the structs of a caller in C mean: a command, a member that starts, a member's row.
+-- What the structs that a caller in C gives mean (`given_`), and the structs that it gets (`_as`): a
+-- command, a member that starts, a member's row.
 use Rattle.std.specs.Prelude.{ℕ, ◌==◌, ◌&&◌, if◌then◌else◌, nat_le, List, [], ◌∷◌, ◌++◌, take, slice_index}
 use Rattle.std.specs.Prelude.{Option, None, Some, Result, Ok, Err, cond}
-use Rattle.std.specs.Option.{option_map_or}
+use Rattle.std.specs.Option.{ok_or, option_map_or}
+use Rattle.std.specs.Result.{result_flatten}
 use Rattle.council_core.specs.Codes.{is_code}
+use Rattle.council_core.specs.Commands.{command_of_parts, form_of_kind, kind_numbered, number_of_kind, parts_of_command}
 use Rattle.council_core.specs.Rolls.{Opening}
 use Rattle.council_core.specs.declared.limits.TheConstants.{CHAIRS, MAX_VOTES}
 use Rattle.council_core.specs.declared.refusals.Refusal.{Refusal}
 use Rattle.council_core.specs.declared.refusals.Refusal.TheVariants.{BadChair, BadMember, BadRecord, VotesTooLarge}
 use Rattle.council_core.specs.declared.commands.Command.{Command}
-use Rattle.council_core.specs.declared.commands.Command.TheVariants.{Open, Close, Move, SetVotes, Suspend, Restore}
-use Rattle.council_core.specs.declared.commands.Command.TheVariants.{Admit, Withdraw}
 use Rattle.council_core.specs.declared.commands.MemberRow.{MemberRow}
-use Rattle.c_values.specs.declared.commands.TheConstants.{OPEN, CLOSE, MOVE, VOTES, SUSPEND, RESTORE, ADMIT, WITHDRAW}
+use Rattle.council_core.specs.declared.kinds.CommandKind.{CommandKind}
+use Rattle.council_core.specs.declared.kinds.Form.{Form}
+use Rattle.council_core.specs.declared.kinds.Form.TheVariants as form
+use Rattle.council_core.specs.declared.kinds.Parts.{Parts}
+use Rattle.council_core.specs.declared.kinds.Parts.TheVariants.{Chair, Member, Seat, Votes}
 use Rattle.c_values.specs.declared.commands.BoardCommand.{BoardCommand}
 use Rattle.c_values.specs.declared.entries.BoardEntry.{BoardEntry}
 use Rattle.c_values.specs.declared.entries.BoardMemberRow.{BoardMemberRow}
@@ -46,18 +51,23 @@ given_seat n = if n == 0 then Ok None else result_map Some (given_chair n)
 abbrev pub given_votes : ℕ → Result ℕ Refusal
 given_votes n = if nat_le n MAX_VOTES then Ok n else Err VotesTooLarge
 
--- the command of a kind, or the refusal of the first part that is not one
+-- the parts in this form, or the refusal of the first that is out of range
+abbrev pub given_parts : Form → BoardCommand → Result Parts Refusal
+given_parts form.Chair c = result_map Chair (given_chair c.chair)
+given_parts form.Member c = result_map Member (given_code c.code)
+given_parts form.Seat c = both_of Seat (given_code c.code) (given_seat c.chair)
+given_parts form.Votes c = both_of Votes (given_code c.code) (given_votes c.votes)
+
+-- the command of a kind and its parts, or the refusal of the first that is none
+abbrev pub command_from : Result CommandKind Refusal → BoardCommand → Result Command Refusal
+command_from (Ok kind) c =
+    result_flatten
+    (result_map (λ parts. ok_or (command_of_parts kind parts) BadRecord) (given_parts (form_of_kind kind) c))
+command_from (Err why) c = Err why
+
+-- the command that a struct gives, or its refusal
 abbrev pub given_command : BoardCommand → Result Command Refusal
-given_command c =
-    if c.kind == OPEN then result_map Open (given_chair c.chair)
-    else if c.kind == CLOSE then result_map Close (given_chair c.chair)
-    else if c.kind == MOVE then both_of Move (given_code c.code) (given_seat c.chair)
-    else if c.kind == VOTES then both_of SetVotes (given_code c.code) (given_votes c.votes)
-    else if c.kind == SUSPEND then result_map Suspend (given_code c.code)
-    else if c.kind == RESTORE then result_map Restore (given_code c.code)
-    else if c.kind == ADMIT then both_of Admit (given_code c.code) (given_votes c.votes)
-    else if c.kind == WITHDRAW then result_map Withdraw (given_code c.code)
-    else Err BadRecord
+given_command c = command_from (ok_or (kind_numbered c.kind) BadRecord) c
 
 -- the member that an entry gives
 abbrev pub given_entry : BoardEntry → Result (List ℕ × ℕ) Refusal
@@ -79,20 +89,20 @@ no_code = 0 ∷ 0 ∷ 0 ∷ 0 ∷ []
 abbrev pub seat_number : Option ℕ → ℕ
 seat_number to = option_map_or (λ c. c) to 0
 
--- a struct with these parts
-abbrev pub command_with : ℕ → List ℕ → ℕ → ℕ → BoardCommand
-command_with kind code chair votes = record { kind = kind; code = code; chair = chair; votes = votes }
+-- a struct with these fields
+abbrev pub fields_with : ℕ → List ℕ → ℕ → ℕ → BoardCommand
+fields_with kind code chair votes = record { kind = kind; code = code; chair = chair; votes = votes }
 
--- a command as a caller gets it; parts that it doesn't have are 0
+-- a struct of this kind with these parts; those that it doesn't have are 0
+abbrev pub struct_with : ℕ → Parts → BoardCommand
+struct_with kind (Chair chair) = fields_with kind no_code chair 0
+struct_with kind (Member code) = fields_with kind (ended_by_zero code) 0 0
+struct_with kind (Seat code to) = fields_with kind (ended_by_zero code) (seat_number to) 0
+struct_with kind (Votes code votes) = fields_with kind (ended_by_zero code) 0 votes
+
+-- a command as a caller gets it
 abbrev pub command_as : Command → BoardCommand
-command_as (Open chair) = command_with OPEN no_code chair 0
-command_as (Close chair) = command_with CLOSE no_code chair 0
-command_as (Move code to) = command_with MOVE (ended_by_zero code) (seat_number to) 0
-command_as (SetVotes code votes) = command_with VOTES (ended_by_zero code) 0 votes
-command_as (Suspend code) = command_with SUSPEND (ended_by_zero code) 0 0
-command_as (Restore code) = command_with RESTORE (ended_by_zero code) 0 0
-command_as (Admit code votes) = command_with ADMIT (ended_by_zero code) 0 votes
-command_as (Withdraw code) = command_with WITHDRAW (ended_by_zero code) 0 0
+command_as command = struct_with (number_of_kind (parts_of_command command).0) (parts_of_command command).1
 
 -- a member and its votes as a caller gets them
 abbrev pub entry_as : List ℕ × ℕ → BoardEntry

@@ -4,7 +4,7 @@ ghost use Rattle.c_values.specs.Given.{ended_by_zero, given_chair, given_code, g
 
 use council_core::{ChairId, MemberCode, Refusal, Votes};
 
-/// The code in a command that names no member.
+// The code in a command that names no member.
 pub(crate) const NO_CODE: [u8; 4] = [0; 4];
 
 pub(crate) fn code_of(code: &[u8; 4]) -> Result<MemberCode, Refusal>

@@ -1,10 +1,10 @@
 //! The counts in the form in which a caller in C gets them.
 ghost use Rattle.std.specs.Prelude.{◌≡◌, ◌≤◌, ◌-◌, ◌++◌, length, map, replicate, IfOk, IfErr, None};
-ghost use Rattle.c_values.specs.Counts.{AreCountsOf, IsSheetInRange, ShowsAllCounts, ShowsCounts, majority_numbered, no_chair};
+ghost use Rattle.c_values.specs.Counts.{AreCountsOf, IsSheetInRange, ShowsAllCounts, ShowsCounts, no_chair};
+ghost use Rattle.majority_rule.specs.Majorities.{majority_numbered};
 ghost use Rattle.council_core.specs.declared.refusals.Refusal.TheVariants.{BadRecord};
 ghost use Rattle.c_values.specs.Rows.{AreCountsAmong, without_indices};
 
-use crate::majorities::majority_at;
 use council_core::{CHAIRS, Refusal, Sheet};
 use majority_rule::Majority;
 use power_index::{ChairPower, Indices, LentEvaluator, ListRoom};
@@ -60,7 +60,7 @@ pub struct BoardAllCounts {
 }
 
 // The chair, weight and swings of a row, without its indices.
-fn chair_of(row: &ChairPower) -> BoardChair
+fn chair_row_for(row: &ChairPower) -> BoardChair
     ensures { result ≡ without_indices row.now }
 {
     BoardChair {
@@ -71,7 +71,7 @@ fn chair_of(row: &ChairPower) -> BoardChair
 }
 
 // The rows of the open chairs, followed by zeros.
-fn rows_of(rows: &[ChairPower]) -> [BoardChair; CHAIRS]
+fn rows_for(rows: &[ChairPower]) -> [BoardChair; CHAIRS]
     requires { length rows.now ≤ CHAIRS }
     ensures { result ≡ map without_indices rows.now ++ replicate (CHAIRS - length rows.now) no_chair }
 {
@@ -81,12 +81,12 @@ fn rows_of(rows: &[ChairPower]) -> [BoardChair; CHAIRS]
         swings: 0,
     }; CHAIRS];
     for index in 0..rows.len() {
-        chairs[index] = chair_of(&rows[index]);
+        chairs[index] = chair_row_for(&rows[index]);
     }
     chairs
 }
 
-fn counts_of(indices: &Indices) -> BoardCounts
+fn counts_for(indices: &Indices) -> BoardCounts
     ensures { AreCountsAmong indices.now result }
 {
     BoardCounts {
@@ -97,19 +97,19 @@ fn counts_of(indices: &Indices) -> BoardCounts
         chairs: u64::from(indices.chairs),
         omega: indices.winning,
         coalitions: indices.coalitions,
-        rows: rows_of(indices.rows.as_slice()),
+        rows: rows_for(indices.rows.as_slice()),
     }
 }
 
 // The counts of a sheet by a majority, with its lists in `room`.
-fn counts_of_sheet(sheet: &Sheet, majority: Majority, room: &mut ListRoom) -> BoardCounts
+fn sheet_counts_for(sheet: &Sheet, majority: Majority, room: &mut ListRoom) -> BoardCounts
     ensures counts { AreCountsOf majority sheet.now result }
 {
     counts_by(&LentEvaluator::over(sheet, room), majority)
 }
 
 /// The counts of a sheet by each majority, from lists that are built once in `room`.
-pub fn all_counts_of_sheet(sheet: &Sheet, room: &mut ListRoom) -> BoardAllCounts
+pub fn all_counts_for(sheet: &Sheet, room: &mut ListRoom) -> BoardAllCounts
     requires whole { IsSheetInRange sheet.now }
     ensures counts { ShowsAllCounts sheet.now result }
 {
@@ -137,15 +137,15 @@ pub fn counts_by_number(
     ensures counts { IfOk result (λ c. ShowsCounts number sheet.now c) }
     ensures refused { IfErr result (λ why. (why ≡ BadRecord) × (majority_numbered number ≡ None)) }
 {
-    let Some(majority) = majority_at(number) else {
+    let Some(majority) = Majority::from_number(number) else {
         return Err(Refusal::BadRecord);
     };
-    Ok(counts_of_sheet(sheet, majority, room))
+    Ok(sheet_counts_for(sheet, majority, room))
 }
 
 fn counts_by(evaluator: &LentEvaluator, majority: Majority) -> BoardCounts
     ensures counts { AreCountsOf majority evaluator.now result }
 {
     let indices = evaluator.evaluate(majority);
-    counts_of(&indices)
+    counts_for(&indices)
 }

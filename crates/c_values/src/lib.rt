@@ -9,12 +9,7 @@ mod codes;
 mod commands;
 mod counts;
 mod entries;
-mod majorities;
 
-pub use commands::{
-    ADMIT, BoardCommand, CLOSE, MOVE, OPEN, PUBLISH, READ, RESTORE, SUSPEND, VOTES, WITHDRAW,
-    command_for, command_of,
-};
-pub use counts::{BoardAllCounts, BoardChair, BoardCounts, all_counts_of_sheet, counts_by_number};
+pub use commands::{BoardCommand, PUBLISH, READ, command_for, command_of};
+pub use counts::{BoardAllCounts, BoardChair, BoardCounts, all_counts_for, counts_by_number};
 pub use entries::{BoardEntry, BoardMemberRow, entry_for, opening_of, row_for};
-pub use majorities::number_for;

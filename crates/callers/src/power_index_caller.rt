@@ -14,6 +14,6 @@ pub fn evaluate_once(alloc: Global, sheet: &Sheet, majority: Majority) -> Result
     ensures memory { IsOkUnless result OutOfMemory }
 {
     let mut evaluator = Evaluator::new(alloc)?;
-    let _halves = evaluator.set(sheet);
+    let _changed = evaluator.set(sheet);
     Ok(evaluator.evaluate(majority))
 }

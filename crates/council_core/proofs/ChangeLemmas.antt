@@ -15,7 +15,7 @@ use Rattle.council_core.specs.declared.commands.Standing.{Standing}
 use Rattle.council_core.specs.declared.refusals.Refusal.{Refusal}
 use Rattle.council_core.specs.declared.refusals.Refusal.TheVariants.{UnknownMember, AlreadySuspended, NotSuspended}
 use Rattle.council_core.specs.Rolls.{Roll, RollEntry, same_code, standing_among, index_among, with_standing, members_without, new_entry, new_standing, is_open, roll_with_open, roll_with_closed, has_members, roll_with_member, roll_without_member, step, next_roll, fold_from, can_receive, update, with_member, suspend_member, restore_member}
-use Rattle.council_core.specs.Registers.{IsPlanned, OpensChair, IsClosing, IsChange, IsEntry, IsLeaving}
+use Rattle.council_core.specs.Registers.{IsPlanned, OpensChair, ClosesChair, UpdatesMember, EntersMember, RemovesMember}
 use Rattle.council_core.proofs.RollLemmas.{insert-with_standing, without-removed, fold_from-push}
 use Rattle.council_core.proofs.MirrorLemmas.{Kept, IsMirror, Loss, Gain, Exchange, Mirrors-open, Mirrors-close, Mirrors-update, Mirrors-admit, Mirrors-withdraw, own_seats}
 use Rattle.council_core.proofs.StoreLemmas.{take_next}
@@ -37,7 +37,7 @@ module _ (roll : Roll) (command : Command) (kept : Kept) (m : IsMirror roll kept
       stepped (roll_with_open roll c) opening.effect now (subst (λ (d : ℕ). IsMirror (roll_with_open roll d) now) index is)
 
   -- a chair is closed
-  pub carried-close : (k c : ℕ) → k + 1 ≡ c → k < 32 → k < length kept.totals.words → IsClosing roll command c
+  pub carried-close : (k c : ℕ) → k + 1 ≡ c → k < 32 → k < length kept.totals.words → ClosesChair roll command c
       → IsAfter (record kept { totals = record kept.totals { words = slice_set kept.totals.words k 0 } })
   carried-close k c index small within closing =
       let now : Kept = record kept { totals = record kept.totals { words = slice_set kept.totals.words k 0 } } in
@@ -45,7 +45,7 @@ module _ (roll : Roll) (command : Command) (kept : Kept) (m : IsMirror roll kept
       stepped (roll_with_closed roll c) closing.effect now (subst (λ (d : ℕ). IsMirror (roll_with_closed roll d) now) index is)
 
   -- a member's standing is changed
-  pub carried-change : (index : ℕ) (old new : Standing) → (code : List ℕ) × (index_among code roll.members ≡ Some index) × IsChange roll command code old new
+  pub carried-change : (index : ℕ) (old new : Standing) → (code : List ℕ) × (index_among code roll.members ≡ Some index) × UpdatesMember roll command code old new
       → (now : Kept) → Exchange kept.totals now.totals old new → now.entries ≡ set_value_at kept.entries index new → IsAfter now
   carried-change index old new planned now x put =
       let es : List RollEntry = kept.entries in
@@ -60,14 +60,14 @@ module _ (roll : Roll) (command : Command) (kept : Kept) (m : IsMirror roll kept
       stepped next change.effect now (subst (λ (e : List RollEntry). IsMirror next (record kept { entries = e; totals = now.totals })) (sym same) is)
 
   -- a member is entered
-  pub carried-admit : (code : List ℕ) (votes : ℕ) → IsEntry roll command code votes
+  pub carried-admit : (code : List ℕ) (votes : ℕ) → EntersMember roll command code votes
       → (now : Kept) → Gain kept.totals now.totals (new_standing votes) → now.entries ≡ kept.entries ++ new_entry (code, votes) ∷ [] → IsAfter now
   carried-admit code votes entry now gain put =
       let is = Mirrors-admit roll kept m code votes entry.room now.totals gain in
       stepped (roll_with_member roll code votes) entry.effect now (subst (λ (e : List RollEntry). IsMirror (roll_with_member roll code votes) (record kept { entries = e; totals = now.totals })) (sym put) is)
 
   -- a member leaves
-  pub carried-withdraw : (index : ℕ) (old : Standing) → (code : List ℕ) × (index_among code roll.members ≡ Some index) × IsLeaving roll command code old
+  pub carried-withdraw : (index : ℕ) (old : Standing) → (code : List ℕ) × (index_among code roll.members ≡ Some index) × RemovesMember roll command code old
       → (now : Kept) → Loss kept.totals now.totals old → now.entries ≡ remove kept.entries index → IsAfter now
   carried-withdraw index old planned now loss put =
       let es : List RollEntry = kept.entries in
@@ -112,21 +112,21 @@ module _ (roll : Roll) (kept : Kept) (m : IsMirror roll kept) (code : List ℕ) 
   of_member : (f : Standing → Result Roll Refusal) → with_member roll code f ≡ f old
   of_member f = ap (λ o. option_map_or f o (Err UnknownMember)) known
 
-  pub sets_votes : (votes : ℕ) → IsChange roll (SetVotes code votes) code old (record old { votes = votes })
+  pub sets_votes : (votes : ℕ) → UpdatesMember roll (SetVotes code votes) code old (record old { votes = votes })
   sets_votes votes = record { known = known; seat = seat; effect = of_member (λ s. update roll code (record s { votes = votes })) }
 
-  pub suspends : is_ok (step roll (Suspend code)) ≡ true → IsChange roll (Suspend code) code old (record old { suspended = true })
+  pub suspends : is_ok (step roll (Suspend code)) ≡ true → UpdatesMember roll (Suspend code) code old (record old { suspended = true })
   suspends ok =
       let is = of_member (suspend_member roll code) in
       record { known = known; seat = seat; effect = is ∙ refused_if old.suspended AlreadySuspended _ (sym (ap is_ok is) ∙ ok) }
 
-  pub restores : is_ok (step roll (Restore code)) ≡ true → IsChange roll (Restore code) code old (record old { suspended = false })
+  pub restores : is_ok (step roll (Restore code)) ≡ true → UpdatesMember roll (Restore code) code old (record old { suspended = false })
   restores ok =
       let is = of_member (restore_member roll code) in
       record { known = known; seat = seat; effect = is ∙ refused_unless old.suspended NotSuspended _ (sym (ap is_ok is) ∙ ok) }
 
   -- that of another name of the command
-  pub change_as : (x y : Command) (index : ℕ) (new : Standing) → x ≡ y → index_among code kept.entries ≡ Some index → IsChange roll y code old new
-      → IsPlanned roll x (change.Stand index old new)
+  pub change_as : (x y : Command) (index : ℕ) (new : Standing) → x ≡ y → index_among code kept.entries ≡ Some index → UpdatesMember roll y code old new
+      → IsPlanned roll x (change.Update index old new)
   change_as x y index new is at change =
-      (code, ap (index_among code) (sym m.same_members) ∙ at, subst (λ (z : Command). IsChange roll z code old new) (sym is) change)
+      (code, ap (index_among code) (sym m.same_members) ∙ at, subst (λ (z : Command). UpdatesMember roll z code old new) (sym is) change)

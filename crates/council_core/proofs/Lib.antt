@@ -1,4 +1,5 @@
 mod CodeLemmas
+mod KindLemmas
 mod MemberLemmas
 mod PublishedLemmas
 mod WorkedCases

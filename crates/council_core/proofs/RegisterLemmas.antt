@@ -2,6 +2,7 @@
 use Rattle.std.proofs.Common.{◌≡◌, ℕ, ◌+◌, ◌^◌, ◌<◌, ◌≤◌, ◌==◌, true, false, cond, List, [], ◌∷◌, length, Some, Result, Ok, Err, sym, ◌∙◌, ap, subst, refl, arith, All, slice_index, if◌then◌else◌, is_ok, take, get_or, true≢false}
 use Rattle.std.specs.Prelude.{⊤}
 use Rattle.std.specs.List.{AllByRecursion}
+use Rattle.std.specs.Result.{result_and}
 use borrow.Author.Tests.{eqb-false}
 use Rattle.std.proofs.lemmas.Bool.{ne_eqb}
 use Rattle.std.proofs.lemmas.List.{length-take}
@@ -14,7 +15,7 @@ use Rattle.council_core.specs.declared.commands.Standing.{Standing}
 use Rattle.council_core.specs.declared.refusals.Refusal.{Refusal}
 use Rattle.council_core.specs.declared.refusals.Refusal.TheVariants.{JournalFull}
 use Rattle.council_core.specs.Rolls.{Roll, RollEntry, standing_among, sits_in, effective_votes, votes_in, weight, total, is_open, step, step, all_accepted, opening_roll}
-use Rattle.council_core.specs.Ledgers.{Ledger, roll_of, room_of, verdict, verdict_of, ledger_as_of}
+use Rattle.council_core.specs.Ledgers.{Ledger, roll_of, room_of, verdict_of, ledger_as_of}
 use Rattle.council_core.specs.Registers.{IsPlanned, members_in_chair, sits_as}
 use Rattle.council_core.proofs.RollLemmas.{part_of_sum, accepted-at}
 use Rattle.council_core.proofs.MirrorLemmas.{Kept, IsMirror, seat_is_free}
@@ -114,11 +115,11 @@ planned_as l v command x y same is planned =
 pub planned_ok : (roll : Roll) (command : Command) (change : Change) → IsPlanned roll command change → is_ok (step roll command) ≡ true
 planned_ok roll command (change.Open chair) p = ap is_ok p.effect
 planned_ok roll command (change.Close chair) p = ap is_ok p.effect
-planned_ok roll command (change.Stand index old new) p = ap is_ok p.2.effect
+planned_ok roll command (change.Update index old new) p = ap is_ok p.2.effect
 planned_ok roll command (change.Enter code votes) p = ap is_ok p.effect
-planned_ok roll command (change.Leave index old) p = ap is_ok p.2.effect
+planned_ok roll command (change.Remove index old) p = ap is_ok p.2.effect
 
-verdict_ok : (stepped : Result Roll Refusal) (room : Result ⊤ Refusal) → is_ok stepped ≡ true → verdict stepped room ≡ room
+verdict_ok : (stepped : Result Roll Refusal) (room : Result ⊤ Refusal) → is_ok stepped ≡ true → result_and stepped room ≡ room
 verdict_ok (Ok r) room h = refl
 verdict_ok (Err e) room h = absurd (true≢false (sym h))
 

@@ -2,6 +2,7 @@
 use Rattle.std.specs.Prelude.{ℕ, ◌≤◌, ◌==◌, if◌then◌else◌, List, [], ◌∷◌, ◌++◌, length, take}
 use Rattle.std.specs.Prelude.{Result, Ok, Err, ⊤, Bool, false, ◌||◌, nat_lt}
 use Rattle.std.specs.List.{list_any}
+use Rattle.std.specs.Result.{result_and}
 use Rattle.council_core.specs.declared.limits.TheConstants.{MAX_COMMANDS, MAX_MEMBERS}
 use Rattle.council_core.specs.Rolls.{Roll, Opening, IsLegal, roll_after, same_code, step, sheet}
 use Rattle.council_core.specs.declared.refusals.Refusal.{Refusal}
@@ -21,9 +22,11 @@ pub record IsLedger (ledger : Ledger) : Type 0 where
   pub within : length ledger.journal ≤ ledger.limit
   pub small : ledger.limit ≤ MAX_COMMANDS
 
+-- the roll after the journal
 abbrev pub roll_of : Ledger → Roll
 roll_of l = roll_after l.opening l.journal
 
+-- the sheet after the journal
 abbrev pub sheet_of : Ledger → List ℕ
 sheet_of l = sheet l.opening l.journal
 
@@ -31,14 +34,9 @@ sheet_of l = sheet l.opening l.journal
 abbrev pub room_of : Ledger → Result ⊤ Refusal
 room_of l = if length l.journal == l.limit then Err JournalFull else Ok tt
 
--- the refusal of the step, or else the refusal of a full journal
-abbrev pub verdict : Result Roll Refusal → Result ⊤ Refusal → Result ⊤ Refusal
-verdict (Ok r) room = room
-verdict (Err e) room = Err e
-
 -- the reply to a command, except out of memory: the refusal of the step, or else of a full journal
 abbrev pub verdict_of : Ledger → Command → Result ⊤ Refusal
-verdict_of l command = verdict (step (roll_of l) command) (room_of l)
+verdict_of l command = result_and (step (roll_of l) command) (room_of l)
 
 -- the ledger with one more accepted command
 abbrev pub ledger_with : Ledger → Command → Ledger

@@ -1,5 +1,6 @@
 pub mod Codes
 pub mod Refusals
+pub mod Commands
 pub mod Rolls
 pub mod Ledgers
 pub mod Sequential

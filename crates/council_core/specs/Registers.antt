@@ -51,24 +51,24 @@ pub record OpensChair (roll : Roll) (command : Command) (chair : ℕ) : Type 0 w
   pub effect : step roll command ≡ Ok (roll_with_open roll chair)
 
 -- the command closes an open chair that has no members
-pub record IsClosing (roll : Roll) (command : Command) (chair : ℕ) : Type 0 where
+pub record ClosesChair (roll : Roll) (command : Command) (chair : ℕ) : Type 0 where
   pub empty : has_members roll chair ≡ false
   pub effect : step roll command ≡ Ok (roll_with_closed roll chair)
 
 -- the command gives the member with this code a new standing, and changes nothing else
-pub record IsChange (roll : Roll) (command : Command) (code : List ℕ) (old new : Standing) : Type 0 where
+pub record UpdatesMember (roll : Roll) (command : Command) (code : List ℕ) (old new : Standing) : Type 0 where
   pub known : standing_among code roll.members ≡ Some old
   pub seat : can_receive roll new.chair ≡ true
   pub effect : step roll command ≡ update roll code new
 
 -- the command adds a member whose code is new
-pub record IsEntry (roll : Roll) (command : Command) (code : List ℕ) (votes : ℕ) : Type 0 where
+pub record EntersMember (roll : Roll) (command : Command) (code : List ℕ) (votes : ℕ) : Type 0 where
   pub unknown : standing_among code roll.members ≡ None
   pub room : length roll.members < MAX_MEMBERS
   pub effect : step roll command ≡ Ok (roll_with_member roll code votes)
 
 -- the command removes the member with this code, which sits in no chair
-pub record IsLeaving (roll : Roll) (command : Command) (code : List ℕ) (old : Standing) : Type 0 where
+pub record RemovesMember (roll : Roll) (command : Command) (code : List ℕ) (old : Standing) : Type 0 where
   pub known : standing_among code roll.members ≡ Some old
   pub unseated : old.chair ≡ None
   pub effect : step roll command ≡ Ok (roll_without_member roll code)
@@ -76,9 +76,9 @@ pub record IsLeaving (roll : Roll) (command : Command) (code : List ℕ) (old : 
 -- the effect of the command on the roll is this change
 abbrev pub IsPlanned : Roll → Command → Change → Type 0
 IsPlanned roll command (change.Open chair) = OpensChair roll command chair
-IsPlanned roll command (change.Close chair) = IsClosing roll command chair
-IsPlanned roll command (change.Stand index old new) =
-    (code : List ℕ) × (index_among code roll.members ≡ Some index) × IsChange roll command code old new
-IsPlanned roll command (change.Enter code votes) = IsEntry roll command code votes
-IsPlanned roll command (change.Leave index old) =
-    (code : List ℕ) × (index_among code roll.members ≡ Some index) × IsLeaving roll command code old
+IsPlanned roll command (change.Close chair) = ClosesChair roll command chair
+IsPlanned roll command (change.Update index old new) =
+    (code : List ℕ) × (index_among code roll.members ≡ Some index) × UpdatesMember roll command code old new
+IsPlanned roll command (change.Enter code votes) = EntersMember roll command code votes
+IsPlanned roll command (change.Remove index old) =
+    (code : List ℕ) × (index_among code roll.members ≡ Some index) × RemovesMember roll command code old

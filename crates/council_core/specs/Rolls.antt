@@ -78,6 +78,7 @@ members_without code (m ∷ ms) = if same_code code m.0 then ms else m ∷ membe
 abbrev pub index_among : List ℕ → List RollEntry → Option ℕ
 index_among code ms = position (same_code code) (keys_of ms)
 
+-- the roll in which the member with this code has this standing
 abbrev pub update : Roll → List ℕ → Standing → Result Roll Refusal
 update r code s = Ok (record r { members = with_standing code s r.members })
 
@@ -129,7 +130,7 @@ admit_member r code votes =
 abbrev pub roll_without_member : Roll → List ℕ → Roll
 roll_without_member r code = record r { members = members_without code r.members }
 
--- a member that sits in a chair, suspended or not, cannot leave
+-- a member that sits in a chair, suspended or not, cannot withdraw
 abbrev pub withdraw_member : Roll → List ℕ → Standing → Result Roll Refusal
 withdraw_member r code s = if is_some s.chair then Err MemberSeated else Ok (roll_without_member r code)
 
@@ -153,6 +154,7 @@ abbrev pub fold_from : Roll → List Command → Roll
 fold_from r [] = r
 fold_from r (command ∷ rest) = fold_from (next_roll r command) rest
 
+-- the roll after the commands of a list that were accepted
 abbrev pub roll_after : Opening → List Command → Roll
 roll_after opening commands = fold_from (opening_roll opening) commands
 
@@ -168,12 +170,15 @@ IsLegal opening commands = IsTrue (all_accepted (opening_roll opening) commands)
 abbrev pub effective_votes : Standing → ℕ
 effective_votes s = if s.suspended then 0 else s.votes
 
+-- the votes of a member that count in chair c
 abbrev pub votes_in : ℕ → Standing → ℕ
 votes_in c s = if sits_in c s then effective_votes s else 0
 
+-- a chair's weight in votes: those of its members that are not suspended
 abbrev pub weight : Roll → ℕ → ℕ
 weight r c = sum_by (λ m. votes_in c m.1) r.members
 
+-- the total voting power in votes: those of all members that are not suspended
 abbrev pub total : Roll → ℕ
 total r = sum_by (λ m. effective_votes m.1) r.members
 
@@ -181,6 +186,7 @@ total r = sum_by (λ m. effective_votes m.1) r.members
 abbrev pub chair_numbers : List ℕ
 chair_numbers = range_with_len 1 CHAIRS
 
+-- the votes that the open chairs cast together
 abbrev pub cast : Roll → ℕ
 cast r = sum_by (λ c. if is_open r c then weight r c else 0) chair_numbers
 
@@ -192,5 +198,6 @@ chair_word r c = if is_open r c then weight r c + 1 else 0
 abbrev pub sheet_words : Roll → ℕ → List ℕ
 sheet_words r front = map (chair_word r) chair_numbers ++ total r ∷ front ∷ []
 
+-- the sheet after the commands of a list
 abbrev pub sheet : Opening → List Command → List ℕ
 sheet opening commands = sheet_words (roll_after opening commands) (length commands)

@@ -28,12 +28,15 @@ weight_in word = word - 1
 abbrev pub cast_of : List ℕ → ℕ
 cast_of words = sum_by weight_in (take CHAIRS words)
 
+-- the total voting power in votes
 abbrev pub total_of : List ℕ → ℕ
 total_of words = slice_index words TOTAL
 
+-- the number of commands after which the sheet was made
 abbrev pub front_of : List ℕ → ℕ
 front_of words = slice_index words FRONT
 
+-- the weight of chair c, or None if it is closed
 abbrev pub weight_word : List ℕ → ℕ → Option ℕ
 weight_word words c = let word = slice_index words (c - 1) in if word == 0 then None else Some (word - 1)
 

@@ -20,7 +20,7 @@ pub(crate) enum Change {
     // A chair that was open is closed.
     Close(ChairId),
     // The member at `index`, in the order of entry, gets a new standing.
-    Stand {
+    Update {
         index: usize,
         old: Standing,
         new: Standing,
@@ -28,7 +28,7 @@ pub(crate) enum Change {
     // A new member is added with its votes, last.
     Enter(MemberCode, Votes),
     // The member at `index`, which has this standing, is removed.
-    Leave {
+    Remove {
         index: usize,
         old: Standing,
     },
@@ -57,12 +57,12 @@ fn change_of(members: &IndexMap<MemberCode, Standing>, command: Command) -> Chan
         Command::Move(code, to) => {
             let (index, old) = known(members, code);
             let new = Standing { chair: to, ..old };
-            Change::Stand { index, old, new }
+            Change::Update { index, old, new }
         }
         Command::SetVotes(code, votes) => {
             let (index, old) = known(members, code);
             let new = Standing { votes, ..old };
-            Change::Stand { index, old, new }
+            Change::Update { index, old, new }
         }
         Command::Suspend(code) => {
             let (index, old) = known(members, code);
@@ -70,7 +70,7 @@ fn change_of(members: &IndexMap<MemberCode, Standing>, command: Command) -> Chan
                 suspended: true,
                 ..old
             };
-            Change::Stand { index, old, new }
+            Change::Update { index, old, new }
         }
         Command::Restore(code) => {
             let (index, old) = known(members, code);
@@ -78,12 +78,12 @@ fn change_of(members: &IndexMap<MemberCode, Standing>, command: Command) -> Chan
                 suspended: false,
                 ..old
             };
-            Change::Stand { index, old, new }
+            Change::Update { index, old, new }
         }
         Command::Admit(code, votes) => Change::Enter(code, votes),
         Command::Withdraw(code) => {
             let (index, old) = known(members, code);
-            Change::Leave { index, old }
+            Change::Remove { index, old }
         }
     }
 }
@@ -104,7 +104,7 @@ pub(crate) fn carry_out(
     match change {
         Change::Open(chair) => totals.words[index_of(chair)] = 1,
         Change::Close(chair) => totals.words[index_of(chair)] = 0,
-        Change::Stand { index, old, new } => {
+        Change::Update { index, old, new } => {
             // The prover needs this line: the votes are in range.
             let _votes = new.votes.number();
             totals.withdraw(&old);
@@ -115,7 +115,7 @@ pub(crate) fn carry_out(
             enter_new(members, code, votes);
             totals.enter(&Standing::fresh(votes));
         }
-        Change::Leave { index, old } => {
+        Change::Remove { index, old } => {
             totals.withdraw(&old);
             take_out(members, index);
         }

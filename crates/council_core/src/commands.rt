@@ -1,8 +1,10 @@
 //! The commands that change the register, and its record of a member.
-ghost use Rattle.std.specs.Prelude.{◌≡◌, ◌≤◌};
+ghost use Rattle.std.specs.Prelude.{◌≡◌, ◌≤◌, Some};
+ghost use Rattle.council_core.specs.Commands.{command_of_parts, form_of_kind, form_of_parts, parts_of_command};
 ghost use Rattle.council_core.specs.Rolls.{new_standing};
 ghost use Rattle.council_core.specs.Laws.{SetsInRange};
 
+use crate::kinds::{CommandKind, Parts};
 use crate::limits::MAX_VOTES;
 use crate::values::{ChairId, MemberCode, Votes};
 
@@ -32,6 +34,44 @@ pub enum Command {
 }
 
 impl Command {
+    /// The command of this kind with these parts, or `None` if they are in another form than the
+    /// kind's.
+    pub fn from_parts(kind: CommandKind, parts: Parts) -> Option<Command>
+        ensures command { result ≡ command_of_parts kind parts }
+    {
+        match (kind, parts) {
+            (CommandKind::Open, Parts::Chair(chair)) => Some(Command::Open(chair)),
+            (CommandKind::Close, Parts::Chair(chair)) => Some(Command::Close(chair)),
+            (CommandKind::Move, Parts::Seat(code, seat)) => Some(Command::Move(code, seat)),
+            (CommandKind::SetVotes, Parts::Votes(code, votes)) => {
+                Some(Command::SetVotes(code, votes))
+            }
+            (CommandKind::Suspend, Parts::Member(code)) => Some(Command::Suspend(code)),
+            (CommandKind::Restore, Parts::Member(code)) => Some(Command::Restore(code)),
+            (CommandKind::Admit, Parts::Votes(code, votes)) => Some(Command::Admit(code, votes)),
+            (CommandKind::Withdraw, Parts::Member(code)) => Some(Command::Withdraw(code)),
+            _ => None,
+        }
+    }
+
+    /// The command's kind and its parts.
+    pub fn into_parts(self) -> (CommandKind, Parts)
+        ensures parts { result ≡ parts_of_command self }
+        ensures whole { command_of_parts result.0 result.1 ≡ Some self }
+        ensures formed { form_of_parts result.1 ≡ form_of_kind result.0 }
+    {
+        match self {
+            Command::Open(chair) => (CommandKind::Open, Parts::Chair(chair)),
+            Command::Close(chair) => (CommandKind::Close, Parts::Chair(chair)),
+            Command::Move(code, seat) => (CommandKind::Move, Parts::Seat(code, seat)),
+            Command::SetVotes(code, votes) => (CommandKind::SetVotes, Parts::Votes(code, votes)),
+            Command::Suspend(code) => (CommandKind::Suspend, Parts::Member(code)),
+            Command::Restore(code) => (CommandKind::Restore, Parts::Member(code)),
+            Command::Admit(code, votes) => (CommandKind::Admit, Parts::Votes(code, votes)),
+            Command::Withdraw(code) => (CommandKind::Withdraw, Parts::Member(code)),
+        }
+    }
+
     // The number of votes that the command sets, and 0 if it sets none.
     pub(crate) fn votes(&self) -> u64
         ensures { SetsInRange self.now }

@@ -5,6 +5,7 @@
 mod calls;
 mod changes;
 mod commands;
+mod kinds;
 mod laws;
 mod limits;
 mod member_rows;
@@ -18,6 +19,7 @@ mod values;
 
 pub use calls::{Answer, Order};
 pub use commands::{Command, MemberRow, Standing};
+pub use kinds::{CommandKind, Form, Parts};
 pub use laws::{cast_law, coalitions_law, opening_law, prefix_law, sheet_law};
 pub use limits::{
     CHAIRS, FRONT, MAX_COMMANDS, MAX_MEMBERS, MAX_TOTAL, MAX_VOTES, SHEET_WORDS, TOTAL,

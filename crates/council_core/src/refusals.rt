@@ -7,7 +7,7 @@ use std::alloc::{AllocError, AllocFailed};
 use std::error::Error;
 use std::fmt;
 
-/// Every refusal and fault of the workspace. `code` is its number, `name` its name, and `Display`
+/// Every refusal and fault of all crates. `code` is its number, `name` its name, and `Display`
 /// writes its reason in words.
 #[derive(Clone, Copy, Debug, PartialEq, Eq, Hash)]
 pub enum Refusal {
@@ -45,7 +45,7 @@ pub enum Refusal {
     VotesTooLarge = 16,
     /// A record of the input is not well formed.
     BadRecord = 17,
-    /// A reader has no place or no entry. No call fails with it.
+    /// A reader has no place or no entry. Kept for its number: no call fails with it.
     NoEntry = 18,
     /// The input could not be read.
     ReadFault = 19,
@@ -76,7 +76,7 @@ pub enum Refusal {
     BadCuts = 31,
     /// The words are not those of a sheet.
     BadSheet = 32,
-    /// More chairs are open than can be counted. No call fails with it.
+    /// More chairs are open than can be counted. Kept for its number: no call fails with it.
     TooManyChairs = 33,
     /// A handle, through which a program in C calls a register, has no register. No run ends with
     /// it.

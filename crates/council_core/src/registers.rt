@@ -34,7 +34,7 @@ use std::marker::Model;
 ///
 /// A call takes O(1) time, on average and amortised, since members are found by hash; except
 /// `start`, which compares all pairs of codes, `as_of`, which carries out commands again, and the
-/// `apply` of a `Withdraw`, which moves all members entered later.
+/// `apply` of a `Withdraw`, which may enter all other members again.
 #[derive(Debug, Drop)]
 pub struct Register {
     opening: Vec<(MemberCode, Votes)>,
@@ -340,7 +340,7 @@ impl Register {
             return Err(Refusal::AlreadyThere);
         }
         let new = Standing { chair: to, ..old };
-        Ok(Change::Stand { index, old, new })
+        Ok(Change::Update { index, old, new })
     }
 
     // The change that `SetVotes` makes, or its refusal.
@@ -350,7 +350,7 @@ impl Register {
     {
         let (index, old) = self.find(code)?;
         let new = Standing { votes, ..old };
-        Ok(Change::Stand { index, old, new })
+        Ok(Change::Update { index, old, new })
     }
 
     // The change that `Suspend` makes, or its refusal.
@@ -366,7 +366,7 @@ impl Register {
             suspended: true,
             ..old
         };
-        Ok(Change::Stand { index, old, new })
+        Ok(Change::Update { index, old, new })
     }
 
     // The change that `Restore` makes, or its refusal.
@@ -382,7 +382,7 @@ impl Register {
             suspended: false,
             ..old
         };
-        Ok(Change::Stand { index, old, new })
+        Ok(Change::Update { index, old, new })
     }
 
     // The change that `Admit` makes, or its refusal.
@@ -408,7 +408,7 @@ impl Register {
         if old.chair.is_some() {
             return Err(Refusal::MemberSeated);
         }
-        Ok(Change::Leave { index, old })
+        Ok(Change::Remove { index, old })
     }
 
     // The change that a command makes, or the refusal of its step.

@@ -11,36 +11,34 @@ use std::alloc::Global;
 use std::process::Abort;
 use std::test::Fail;
 
-// The number of halves that differ at each sheet: after AAA sits in chair 16 and BBB in chair 17,
-// after the votes of each change, for the same sheet, and after BBB is given the votes that it has.
-fn halves_that_differ(
-    register: &mut Register,
-    evaluator: &mut Evaluator,
-) -> Result<[u8; 5], Refusal> {
+// How many of the blocks of chairs 1 to 16 and 17 to 32 each sheet changes: after AAA sits in chair
+// 16 and BBB in chair 17, after the votes of each change, for the same sheet, and after BBB is given
+// the votes that it has.
+fn changed_blocks(register: &mut Register, evaluator: &mut Evaluator) -> Result<[u8; 5], Refusal> {
     for command in [open(16)?, seat("AAA", 16)?, open(17)?, seat("BBB", 17)?] {
         register.apply(command)?;
     }
     let both = evaluator.set(&register.sheet());
     register.apply(set_votes("AAA", 11)?)?;
-    let left = evaluator.set(&register.sheet());
+    let first = evaluator.set(&register.sheet());
     register.apply(set_votes("BBB", 21)?)?;
-    let [right, same] = [
+    let [second, same] = [
         evaluator.set(&register.sheet()),
         evaluator.set(&register.sheet()),
     ];
     register.apply(set_votes("BBB", 21)?)?;
-    Ok([both, left, right, same, evaluator.set(&register.sheet())])
+    Ok([both, first, second, same, evaluator.set(&register.sheet())])
 }
 
-// The halves that each sheet builds again, and the indices of the last one.
+// The changed blocks at each sheet, and the indices of the last one.
 fn rebuild_partly<R: Abort>(
     rt: &R,
     register: &mut Register,
     evaluator: &mut Evaluator,
 ) -> Result<(), Refusal> {
-    let halves = halves_that_differ(register, evaluator)?;
+    let blocks = changed_blocks(register, evaluator)?;
     let indices = evaluator.evaluate(Majority::Half);
-    assert_eq!(rt; halves, [2, 1, 1, 0, 0]);
+    assert_eq!(rt; blocks, [2, 1, 1, 0, 0]);
     assert_eq!(rt;
         (indices.quota, indices.winning, indices.coalitions),
         (17, 2, 4)

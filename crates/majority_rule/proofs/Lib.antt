@@ -1,1 +1,3 @@
-pub mod WorkedCases
+mod MajorityLemmas
+mod WorkedCases
+pub mod Face

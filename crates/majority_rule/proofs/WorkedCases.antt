@@ -1,8 +1,9 @@
 -- Quotas and least sizes of worked examples, computed by their definition from the 34 words of a
 -- sheet.
-use Rattle.std.proofs.Common.{◌≡◌, ◌≤◌, ℕ, List, [], ◌∷◌, ◌++◌, true, false, refl, replicate, arith}
+use Rattle.std.proofs.Common.{◌≡◌, ◌≤◌, ℕ, List, [], ◌∷◌, ◌++◌, true, false, Some, None, refl, replicate, arith}
 use Rattle.std.specs.Prelude.{IsTrue}
 use Rattle.majority_rule.specs.declared.majorities.Majority.TheVariants.{Half, Seventy, EightyFive, Quorum}
+use Rattle.majority_rule.specs.Majorities.{majority_numbered, number_of_majority}
 use Rattle.majority_rule.specs.Winning.{quota_of, least_size_of, wins, rule_of, MonotoneLaw, QuotaLaw}
 
 -- chairs 1, 2 and 3 with 50, 49 and 1 votes, and 100 votes more in no chair
@@ -111,3 +112,10 @@ quotas_of_none = (refl, refl, refl, refl)
 
 pub none_wins : (wins Half (replicate 34 0) 0 0 ≡ false) × (wins EightyFive (replicate 34 0) 0 0 ≡ false) × (wins Quorum (replicate 34 0) 0 0 ≡ false) × (least_size_of Quorum (replicate 34 0) ≡ 1)
 none_wins = (refl, refl, refl, refl)
+
+-- the majorities by number, of which there is no other
+pub numbers : (majority_numbered 0 ≡ Some Half) × (majority_numbered 1 ≡ Some Seventy) × (majority_numbered 2 ≡ Some EightyFive) × (majority_numbered 3 ≡ Some Quorum) × (majority_numbered 4 ≡ None)
+numbers = (refl, refl, refl, refl, refl)
+
+pub numbers_of_majorities : (number_of_majority Half ≡ 0) × (number_of_majority Seventy ≡ 1) × (number_of_majority EightyFive ≡ 2) × (number_of_majority Quorum ≡ 3)
+numbers_of_majorities = (refl, refl, refl, refl)

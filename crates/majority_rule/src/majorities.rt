@@ -1,10 +1,10 @@
-//! The four majorities, each with its word.
-ghost use Rattle.std.specs.Prelude.{◌≡◌, ◌≤◌, Some, find, length};
+//! The four majorities, each with its number and its word.
+ghost use Rattle.std.specs.Prelude.{◌≡◌, ◌≤◌, ◌==◌, Some, find, length};
 ghost use Rattle.std.specs.Fmt.{styled_text};
 ghost use Rattle.std.specs.Option.{ok_or};
 ghost use Rattle.std.specs.Str.{bytes_eq};
 ghost use Rattle.council_core.specs.declared.refusals.Refusal.TheVariants.{BadRecord};
-ghost use Rattle.majority_rule.specs.Majorities.{majority_of, word_of_majority};
+ghost use Rattle.majority_rule.specs.Majorities.{majority_numbered, majority_of, number_of_majority, word_of_majority};
 
 use council_core::Refusal;
 use std::fmt;
@@ -36,7 +36,7 @@ pub enum Majority {
 }
 
 impl Majority {
-    /// Every majority once, in the order of the library's numbers, from 0.
+    /// Every majority once, by number.
     pub const ALL: [Majority; 4] = [
         Majority::Half,
         Majority::Seventy,
@@ -49,6 +49,21 @@ impl Majority {
         ensures known { result ≡ majority_of word.now }
     {
         first_of_word(&Self::ALL, word)
+    }
+
+    /// The majority with this number, or `None` if no majority has it.
+    pub fn from_number(number: u32) -> Option<Majority>
+        ensures known { result ≡ majority_numbered number }
+    {
+        first_of_number(&Self::ALL, number)
+    }
+
+    /// The majority's number in the library for C.
+    pub fn number(self) -> u32
+        ensures number { result ≡ number_of_majority self }
+        ensures read_back { majority_numbered result ≡ Some self }
+    {
+        self as u32
     }
 
     /// The majority's word in ASCII, as records and lines have it, at most 6 bytes long.
@@ -74,6 +89,16 @@ fn first_of_word(majorities: &[Majority], word: &[u8]) -> Option<Majority>
         .iter()
         .copied()
         .find(|majority| word == majority.word().as_bytes())
+}
+
+// The first of these majorities that has this number, or `None`.
+fn first_of_number(majorities: &[Majority], number: u32) -> Option<Majority>
+    ensures { result ≡ find (λ m. number_of_majority m == number) majorities.now }
+{
+    majorities
+        .iter()
+        .copied()
+        .find(|majority| majority.number() == number)
 }
 
 impl FromStr for Majority {

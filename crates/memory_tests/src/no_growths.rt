@@ -67,19 +67,19 @@ fn look_at_register(
     Ok((numbers, checks, register.apply(old)))
 }
 
-// The number of changed halves, then the quota, the winning coalitions and the swings of the first
+// The number of changed blocks, then the quota, the winning coalitions and the swings of the first
 // chair, the winning coalitions at another majority, the front, and the winning coalitions counted
 // in other memory.
 fn count_all(evaluator: &mut Evaluator, sheet: &Sheet) -> [u64; 7] {
     let mut room = ListRoom::new();
-    let halves = evaluator.set(sheet);
+    let blocks = evaluator.set(sheet);
     let half = evaluator.evaluate(Majority::Half);
     let swings = match half.rows.as_slice().first() {
         Some(row) => row.swings,
         None => 0,
     };
     [
-        u64::from(halves),
+        u64::from(blocks),
         half.quota,
         half.winning,
         swings,

@@ -2,7 +2,8 @@
 -- the same sets of them win, and the counts at a place are those of the chair at that place.
 use Rattle.std.proofs.Common.{◌≡◌, ℕ, ◌+◌, ◌-◌, ◌<◌, Bool, true, false, cond, List, [], ◌∷◌, ◌++◌, map, length, take, drop, get_or, arith, refl, sym, ap, ◌∙◌, eqb, leb, inl, inr, ◌≢◌, zero, suc}
 use Rattle.std.specs.Prelude.{◌&&◌, not}
-use Rattle.std.specs.List.{sum_by, list_any, IsDistinct}
+use Rattle.std.specs.List.{sum_by, list_any, enumerate_from, IsDistinct}
+use Rattle.std.proofs.lemmas.List.FromFn.{length-enumerate_from, get_or-enumerate_from}
 use Rattle.std.proofs.lemmas.Bool.{eq-eqb, ne_eqb, cases_lt, lt-ltb, le-ltb}
 use Rattle.std.proofs.lemmas.List.{length-map, map-append, take-append-drop, length-take, length-drop, get_or-map, get_or-append_right, get_or_append_left}
 use Rattle.std.proofs.lemmas.Map.Keys.{IsDistinct-tail}
@@ -12,14 +13,14 @@ use Rattle.council_core.specs.Sheets.{Chair, open_chairs}
 use Rattle.council_core.specs.Coalitions.{has_chair, omega_of, eta_of, threshold_rule, subsets}
 use Rattle.council_core.proofs.Face.{numbers_distinct}
 use Rattle.half_sums.specs.declared.entry.Entry.{Entry}
-use Rattle.swing_walk.specs.Pairs.{large_pairs, large_with, swings_of}
+use Rattle.swing_walk.specs.Pairs.{winning_pairs, winning_with, swings_of}
 use Rattle.swing_walk.specs.Laws as laws
 use Rattle.swing_walk.specs.Laws.{board_of, AreHalf}
 use Rattle.swing_walk.proofs.Face.{over-map, pair_law, shifted}
 use Rattle.half_sums.proofs.Face.{first_apart, or_left, or_right, over, sum_agree, sum_by-map}
-use Rattle.power_index.specs.Halves.{weights, chairs_from_slot, left_count, left_weights, right_weights, place_in_counts, open_chair_place, AreHalves}
+use Rattle.power_index.specs.Halves.{weights, left_count, left_weights, right_weights, place_in_counts, open_chair_place, AreHalves}
 use Rattle.power_index.specs.Counts.{etas, EvaluationLaw}
-use Rattle.power_index.proofs.HalfLemmas.{slotted_slots, slotted_distinct, slotted_weights, slotted_length, slotted_at, left_few, right_few}
+use Rattle.power_index.proofs.HalfLemmas.{slotted_slots, slotted_distinct, slotted_weights, left_few, right_few}
 use Rattle.power_index.proofs.RowLemmas.{etas_at}
 use Rattle.half_sums.specs.declared.groups.TheConstants.{SLOTS}
 use Rattle.council_core.specs.declared.limits.TheConstants.{CHAIRS}
@@ -125,10 +126,10 @@ eta_weights quota least_size chairs i distinct h =
 
 -- the board of a sheet
 abbrev left_of : List ℕ → List Chair
-left_of words = chairs_from_slot 0 (left_weights words)
+left_of words = enumerate_from 0 (left_weights words)
 
 abbrev right_of : List ℕ → List Chair
-right_of words = chairs_from_slot 0 (right_weights words)
+right_of words = enumerate_from 0 (right_weights words)
 
 abbrev board : List ℕ → List Chair
 board words = board_of (left_of words) (right_of words)
@@ -161,18 +162,18 @@ placed words i inside =
     let n : ℕ = length (open_chairs words) in
     let h : ℕ = left_count n in
     let all : length (weights words) ≡ n = length-map (open_chairs words) weight in
-    let lefts : length (left_of words) ≡ h = slotted_length 0 (left_weights words) ∙ omega (arith, length-take h (weights words), all) in
+    let lefts : length (left_of words) ≡ h = length-enumerate_from 0 (left_weights words) ∙ omega (arith, length-take h (weights words), all) in
     let rights : length (right_weights words) ≡ n - h = omega (arith, length-drop h (weights words), all) in
     elim (cases_lt i h) as (λ _. (get_or (board words) i none).0 ≡ place_in_counts h i) [
       | inl below ↦
-          ap (λ c. c.0) (get_or_append_left (left_of words) (map shifted (right_of words)) none i (omega (arith, lefts)) ∙ slotted_at 0 (left_weights words) i none (omega (arith, lefts, slotted_length 0 (left_weights words))))
+          ap (λ c. c.0) (get_or_append_left (left_of words) (map shifted (right_of words)) none i (omega (arith, lefts)) ∙ get_or-enumerate_from 0 (left_weights words) i none (omega (arith, lefts, length-enumerate_from 0 (left_weights words))))
           ∙ (let number : 0 + i ≡ i = omega arith in number)
           ∙ sym (ap (λ b. cond b i (SLOTS + (i - h))) (lt-ltb i h below))
       | inr above ↦
           ap (λ c. c.0)
           (get_or-append_right (left_of words) (map shifted (right_of words)) h i none lefts above
-          ∙ get_or-map shifted (right_of words) (i - h) none none (omega (arith, rights, slotted_length 0 (right_weights words)))
-          ∙ ap shifted (slotted_at 0 (right_weights words) (i - h) none (omega (arith, rights))))
+          ∙ get_or-map shifted (right_of words) (i - h) none none (omega (arith, rights, length-enumerate_from 0 (right_weights words)))
+          ∙ ap shifted (get_or-enumerate_from 0 (right_weights words) (i - h) none (omega (arith, rights))))
           ∙ (let number : 0 + (i - h) + SLOTS ≡ SLOTS + (i - h) = omega arith in number)
           ∙ sym (ap (λ b. cond b i (SLOTS + (i - h))) (le-ltb i h above))
     ]
@@ -183,18 +184,18 @@ Meet quota least_size words from to = laws.CountsMeet quota least_size (left_of 
 
 -- the swings that the counts give at a place are those of its chair
 swings_at : (quota least_size : ℕ) (words : List ℕ) (from to : List Entry) (i : ℕ) → i < length (open_chairs words) → Meet quota least_size words from to →
-    swings_of (large_pairs quota least_size from to) (large_with quota least_size (open_chair_place words i) from to) ≡ get_or (etas (threshold_rule quota least_size) (open_chairs words)) i 0
+    swings_of (winning_pairs quota least_size from to) (winning_with quota least_size (open_chair_place words i) from to) ≡ get_or (etas (threshold_rule quota least_size) (open_chairs words)) i 0
 swings_at quota least_size words from to i inside law =
     let on_board : i < length (board words) = omega (arith, inside, board_length words) in
     let chair : Chair = get_or (board words) i none in
-    ap (λ n. swings_of (large_pairs quota least_size from to) (large_with quota least_size n from to)) (sym (placed words i inside))
+    ap (λ n. swings_of (winning_pairs quota least_size from to) (winning_with quota least_size n from to)) (sym (placed words i inside))
     ∙ law.swings (take i (board words)) (drop (suc i) (board words)) chair (split_at (board words) i none on_board)
     ∙ eta_weights quota least_size (board words) i (board_distinct words) on_board
     ∙ ap (eta_by quota least_size i) (board_weights words)
     ∙ sym (eta_weights quota least_size (open_chairs words) i (numbers_distinct 1 (take CHAIRS words)) inside)
     ∙ sym (etas_at (threshold_rule quota least_size) (open_chairs words) i none inside)
 
-omega_law : (quota least_size : ℕ) (words : List ℕ) (from to : List Entry) → AreHalves words from to → large_pairs quota least_size from to ≡ omega_of (threshold_rule quota least_size) (open_chairs words)
+omega_law : (quota least_size : ℕ) (words : List ℕ) (from to : List Entry) → AreHalves words from to → winning_pairs quota least_size from to ≡ omega_of (threshold_rule quota least_size) (open_chairs words)
 omega_law quota least_size words from to halves =
     (pair_law quota least_size (left_of words) (right_of words) from to (left_half words) (right_half words) halves.left_half halves.right_half).winning
     ∙ omega_weights quota least_size (board words)

@@ -1,10 +1,11 @@
 -- The chairs of a half, weight by weight, and what a rebuild asks of them.
-use Rattle.std.proofs.Common.{◌≡◌, ℕ, ◌+◌, ◌-◌, ◌*◌, ◌%◌, ◌^◌, ◌<◌, ◌≤◌, List, [], ◌∷◌, ◌++◌, map, length, take, get_or, arith, refl, sym, ap, ◌∙◌, eqb, subst, replicate, zero, suc, inl, inr, ◌≢◌}
-use Rattle.std.specs.List.{sum_by, All, IsDistinct}
+use Rattle.std.proofs.Common.{◌≡◌, ℕ, ◌+◌, ◌-◌, ◌*◌, ◌%◌, ◌^◌, ◌<◌, ◌≤◌, List, [], ◌∷◌, ◌++◌, map, length, take, get_or, arith, refl, sym, ap, ◌∙◌, eqb, subst, replicate, inl, inr, ◌≢◌}
+use Rattle.std.specs.List.{sum_by, enumerate_from, All, IsDistinct}
 use Rattle.std.proofs.Math.Nat.{pow-le-pow_right}
 use Rattle.std.proofs.lemmas.Nat.{one_shl}
 use Rattle.std.proofs.lemmas.List.{get_or-replicate, take_more, length-take, length-take-le, length-map, length-drop, get_or_append_left}
 use Rattle.std.proofs.Math.Seq.{get_or-append_seam}
+use Rattle.std.proofs.lemmas.List.FromFn.{length-enumerate_from}
 use Rattle.std.proofs.lemmas.Bool.{cases_eq}
 use Rattle.std.proofs.lemmas.List.Elements.{All-weaker}
 use Rattle.std.proofs.lemmas.List.Sums.{sum_by-take-drop}
@@ -12,7 +13,7 @@ use Rattle.half_sums.proofs.Face.{sum_by-map}
 use Rattle.council_core.specs.Sheets.{Chair, open_from, open_chairs, weight_of, IsSheet, cast_of}
 use Rattle.council_core.proofs.Face.{chair_of, chair_of-open, numbers_distinct, numbers_within, open_from-cons, weight_of-open}
 use Rattle.power_index.proofs.Bounds.{few_chairs}
-use Rattle.power_index.specs.Halves.{weights, chairs_from_slot, left_count, left_weights, right_weights}
+use Rattle.power_index.specs.Halves.{weights, left_count, left_weights, right_weights}
 use Rattle.half_sums.specs.declared.groups.TheConstants.{SLOTS}
 use Rattle.half_sums.specs.declared.lists.TheConstants.{ROOM}
 use Rattle.council_core.specs.declared.limits.TheConstants.{CHAIRS, SHEET_WORDS}
@@ -21,59 +22,48 @@ use Rattle.council_core.specs.declared.limits.TheConstants.{CHAIRS, SHEET_WORDS}
 abbrev more : List ℕ → List ℕ
 more ws = map (λ w. w + 1) ws
 
-slotted_is : (c : ℕ) (ws : List ℕ) → chairs_from_slot c ws ≡ open_from c (more ws)
+slotted_is : (c : ℕ) (ws : List ℕ) → enumerate_from c ws ≡ open_from c (more ws)
 slotted_is c [] = refl
 slotted_is c (w ∷ ws) =
     let back : w + 1 - 1 ≡ w = omega arith in
     let one : chair_of c (w + 1) ≡ (c, w) ∷ [] = chair_of-open c (w + 1) (λ e. absurd (omega arith)) ∙ ap (λ v. (c, v) ∷ []) back in
     sym (open_from-cons c (w + 1) (more ws) ∙ ap (λ l. l ++ open_from (c + 1) (more ws)) one ∙ ap (λ l. (c, w) ∷ l) (sym (slotted_is (c + 1) ws)))
 
-pub slotted_slots : (ws : List ℕ) → length ws ≤ SLOTS → All (λ chair. chair.0 < SLOTS) (chairs_from_slot 0 ws)
+pub slotted_slots : (ws : List ℕ) → length ws ≤ SLOTS → All (λ chair. chair.0 < SLOTS) (enumerate_from 0 ws)
 slotted_slots ws bound =
     rw (slotted_is 0 ws)
     (All-weaker (λ (ch : Chair). (0 ≤ ch.0) × (ch.0 < 0 + length (more ws))) (λ ch. ch.0 < SLOTS)
     (λ ch h. omega (arith, h.1, length-map ws (λ w. w + 1))) (open_from 0 (more ws)) (numbers_within 0 (more ws)))
 
-pub slotted_distinct : (c : ℕ) (ws : List ℕ) → IsDistinct eqb (map (λ ch. ch.0) (chairs_from_slot c ws))
+pub slotted_distinct : (c : ℕ) (ws : List ℕ) → IsDistinct eqb (map (λ ch. ch.0) (enumerate_from c ws))
 slotted_distinct c ws = rw (slotted_is c ws) (numbers_distinct c (more ws))
 
-pub slotted_weights : (c : ℕ) (ws : List ℕ) → map (λ ch. ch.1) (chairs_from_slot c ws) ≡ ws
+pub slotted_weights : (c : ℕ) (ws : List ℕ) → map (λ ch. ch.1) (enumerate_from c ws) ≡ ws
 slotted_weights c [] = refl
 slotted_weights c (w ∷ ws) = ap (λ l. w ∷ l) (slotted_weights (c + 1) ws)
 
-pub slotted_length : (c : ℕ) (ws : List ℕ) → length (chairs_from_slot c ws) ≡ length ws
-slotted_length c [] = refl
-slotted_length c (w ∷ ws) = ap suc (slotted_length (c + 1) ws)
-
 -- the sets of chairs at slots from 0 on take the first part of a half's room
-pub sets_fit : (ws room : List ℕ) → length ws ≤ SLOTS → length room ≡ ROOM → length (take (1 * 2 ^ length ws % 2 ^ 64) room) ≡ 2 ^ length (chairs_from_slot 0 ws)
+pub sets_fit : (ws room : List ℕ) → length ws ≤ SLOTS → length room ≡ ROOM → length (take (1 * 2 ^ length ws % 2 ^ 64) room) ≡ 2 ^ length (enumerate_from 0 ws)
 sets_fit ws room few all =
     let count : 1 * 2 ^ length ws % 2 ^ 64 ≡ 2 ^ length ws = one_shl (length ws) 64 (omega (arith, few)) in
     let fits : 2 ^ length ws ≤ 2 ^ SLOTS = pow-le-pow_right (omega arith) few in
-    rw (count, slotted_length 0 ws) (length-take-le (2 ^ length ws) room (omega (arith, fits, all)))
+    rw (count, length-enumerate_from 0 ws) (length-take-le (2 ^ length ws) room (omega (arith, fits, all)))
 
-pub slotted_sum : (c : ℕ) (ws : List ℕ) → weight_of (chairs_from_slot c ws) ≡ sum_by (λ n. n) ws
-slotted_sum c ws = sym (sum_by-map (λ n. n) (λ (ch : Chair). ch.1) (chairs_from_slot c ws)) ∙ ap (sum_by (λ n. n)) (slotted_weights c ws)
+pub slotted_sum : (c : ℕ) (ws : List ℕ) → weight_of (enumerate_from c ws) ≡ sum_by (λ n. n) ws
+slotted_sum c ws = sym (sum_by-map (λ n. n) (λ (ch : Chair). ch.1) (enumerate_from c ws)) ∙ ap (sum_by (λ n. n)) (slotted_weights c ws)
 
-pub slotted-append : (c : ℕ) (xs ys : List ℕ) → chairs_from_slot c (xs ++ ys) ≡ chairs_from_slot c xs ++ chairs_from_slot (c + length xs) ys
-slotted-append c [] ys = ap (λ n. chairs_from_slot n ys) (omega arith)
+pub slotted-append : (c : ℕ) (xs ys : List ℕ) → enumerate_from c (xs ++ ys) ≡ enumerate_from c xs ++ enumerate_from (c + length xs) ys
+slotted-append c [] ys = ap (λ n. enumerate_from n ys) (omega arith)
 slotted-append c (x ∷ xs) ys =
     let turn : c + 1 + length xs ≡ c + length (x ∷ xs) = omega arith in
-    ap (λ l. (c, x) ∷ l) (slotted-append (c + 1) xs ys ∙ ap (λ n. chairs_from_slot (c + 1) xs ++ chairs_from_slot n ys) turn)
+    ap (λ l. (c, x) ∷ l) (slotted-append (c + 1) xs ys ∙ ap (λ n. enumerate_from (c + 1) xs ++ enumerate_from n ys) turn)
 
-pub slotted_more : (ws : List ℕ) (i : ℕ) → i < length ws → chairs_from_slot 0 (take (i + 1) ws) ≡ chairs_from_slot 0 (take i ws) ++ (i, get_or ws i 0) ∷ []
+pub slotted_more : (ws : List ℕ) (i : ℕ) → i < length ws → enumerate_from 0 (take (i + 1) ws) ≡ enumerate_from 0 (take i ws) ++ (i, get_or ws i 0) ∷ []
 slotted_more ws i h =
     let at : 0 + length (take i ws) ≡ i = omega (arith, length-take i ws) in
-    ap (chairs_from_slot 0) (take_more ws i 0 h)
+    ap (enumerate_from 0) (take_more ws i 0 h)
     ∙ slotted-append 0 (take i ws) (get_or ws i 0 ∷ [])
-    ∙ ap (λ n. chairs_from_slot 0 (take i ws) ++ chairs_from_slot n (get_or ws i 0 ∷ [])) at
-
-pub slotted_at : (c : ℕ) (ws : List ℕ) (i : ℕ) (d : Chair) → i < length ws → get_or (chairs_from_slot c ws) i d ≡ (c + i, get_or ws i 0)
-slotted_at c [] i d h = absurd (omega arith)
-slotted_at c (w ∷ ws) zero d h = let same : c ≡ c + 0 = omega arith in ap (λ n. (n, w)) same
-slotted_at c (w ∷ ws) (suc i) d h =
-    let turn : c + 1 + i ≡ c + suc i = omega arith in
-    slotted_at (c + 1) ws i d (omega arith) ∙ ap (λ n. (n, get_or ws i 0)) turn
+    ∙ ap (λ n. enumerate_from 0 (take i ws) ++ enumerate_from n (get_or ws i 0 ∷ [])) at
 
 -- the weights add up to the votes cast
 pub weights_sum : (words : List ℕ) → sum_by (λ n. n) (weights words) ≡ cast_of words

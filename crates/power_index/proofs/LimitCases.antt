@@ -1,15 +1,16 @@
 -- Halves, places and fractions at their limits and one beside them, boards of an even number of chairs, and what indices and
 -- counts say, field by field.
 use Rattle.std.proofs.Common.{◌≡◌, ◌≤◌, ◌<◌, ◌*◌, ◌^◌, ◌++◌, ℕ, List, [], ◌∷◌, Some, None, refl, sym, replicate, arith, true≢false}
+use Rattle.std.specs.List.{enumerate_from}
 use Rattle.std.proofs.lemmas.List.Sorted.{sum_by-IsPermutation}
 use Rattle.majority_rule.specs.declared.majorities.Majority.TheVariants.{Half, Quorum}
 use Rattle.majority_rule.specs.Winning.{rule_of}
 use Rattle.council_core.specs.Sheets.{open_chairs}
 use Rattle.half_sums.specs.declared.entry.Entry.{Entry}
-use Rattle.swing_walk.specs.Pairs.{large_pairs, swings_of}
+use Rattle.swing_walk.specs.Pairs.{winning_pairs, swings_of}
 use Rattle.power_index.specs.declared.indices.Indices.{Indices}
 use Rattle.power_index.specs.Counts.{AreCounts, EvaluationLaw}
-use Rattle.power_index.specs.Halves.{AreHalves, changed_blocks, chairs_from_slot, left_count, left_weights, open_chair_place, place_in_counts, right_weights}
+use Rattle.power_index.specs.Halves.{AreHalves, changed_blocks, left_count, left_weights, open_chair_place, place_in_counts, right_weights}
 use Rattle.power_index.specs.Indices.{AreIndices, indices_of, ratio, ratio_unless_zero, rows_among}
 use Rattle.power_index.proofs.WorkedCases.{indices, row, three_chairs}
 
@@ -20,7 +21,7 @@ halves_of_each = (refl, refl, refl, refl, refl, refl)
 halves_of_three : (left_weights three_chairs ≡ 50 ∷ 49 ∷ []) × (right_weights three_chairs ≡ 1 ∷ [])
 halves_of_three = (refl, refl)
 
-slots_from_0 : chairs_from_slot 0 (5 ∷ 7 ∷ []) ≡ (0, 5) ∷ (1, 7) ∷ []
+slots_from_0 : enumerate_from {X = ℕ} 0 (5 ∷ 7 ∷ []) ≡ (0, 5) ∷ (1, 7) ∷ []
 slots_from_0 = refl
 
 -- the last place on the left, and the first on the right, which is 16
@@ -92,5 +93,5 @@ counted winning with_chair h =
     (h.omega, h.bound, h.within 31 (omega arith), h.half 31 (omega arith), h.swings 0 (omega arith), h.swings 1 (omega arith), h.swings 2 (omega arith))
 
 -- and by the law those of the lists of its halves
-evaluation_used : EvaluationLaw → (left right : List Entry) → AreHalves three_chairs left right → large_pairs 51 0 left right ≡ 3
+evaluation_used : EvaluationLaw → (left right : List Entry) → AreHalves three_chairs left right → winning_pairs 51 0 left right ≡ 3
 evaluation_used law left right are = (law 51 0 three_chairs left right are).omega

@@ -6,7 +6,7 @@ use Rattle.council_core.specs.Coalitions.{Rule, eta_of, omega_of}
 use Rattle.half_sums.specs.declared.entry.Entry.{Entry}
 use Rattle.majority_rule.specs.declared.majorities.Majority.{Majority}
 use Rattle.majority_rule.specs.Winning.{rule_of}
-use Rattle.swing_walk.specs.Pairs.{large_pairs, large_with, swings_of}
+use Rattle.swing_walk.specs.Pairs.{winning_pairs, winning_with, swings_of}
 use Rattle.power_index.specs.Halves.{AreHalves, left_count, place_in_counts, open_chair_place}
 use Rattle.power_index.specs.Counts.{AreCounts, etas}
 use Rattle.power_index.specs.Indices.{power_of, swings_among}
@@ -35,15 +35,15 @@ row_agree words tally n sum i d is count same inside =
     ∙ ap (λ x. power_of (length board) (omega_of rule board) (swings_among rule board board) x chair) (ap (λ l. get_or l i 0) is.each ∙ etas_at rule board i d inside)
 
 pub are_counts : (quota least_size : ℕ) (words : List ℕ) (from to : List Entry) (winning : ℕ) (with_chair : ℕ → ℕ) → AreHalves words from to →
-    winning ≡ large_pairs quota least_size from to → ((place : ℕ) → place < CHAIRS → with_chair place ≡ large_with quota least_size place from to) → AreCounts quota least_size words winning with_chair
+    winning ≡ winning_pairs quota least_size from to → ((place : ℕ) → place < CHAIRS → with_chair place ≡ winning_with quota least_size place from to) → AreCounts quota least_size words winning with_chair
 are_counts quota least_size words from to winning with_chair halves w each =
-    let law : AreCounts quota least_size words (large_pairs quota least_size from to) (λ place. large_with quota least_size place from to) = evaluation_law quota least_size words from to halves in
+    let law : AreCounts quota least_size words (winning_pairs quota least_size from to) (λ place. winning_with quota least_size place from to) = evaluation_law quota least_size words from to halves in
     record {
       omega = w ∙ law.omega;
       bound = omega (arith, law.bound);
       within = λ place h. omega (arith, each place h, law.within place h);
       half = λ place h some. omega (arith, each place h, law.half place h (omega (arith, each place h)));
-      swings = λ i h. ap (λ n. swings_of n (with_chair (open_chair_place words i))) w ∙ ap (swings_of (large_pairs quota least_size from to)) (each (open_chair_place words i) (place_below words i h)) ∙ law.swings i h;
+      swings = λ i h. ap (λ n. swings_of n (with_chair (open_chair_place words i))) w ∙ ap (swings_of (winning_pairs quota least_size from to)) (each (open_chair_place words i) (place_below words i h)) ∙ law.swings i h;
     }
 
 -- the items at the places of the open chairs, in their order, are the chairs' swings

@@ -4,7 +4,7 @@ use Rattle.council_core.specs.declared.limits.TheConstants.{CHAIRS}
 use Rattle.council_core.specs.Sheets.{Chair, open_chairs}
 use Rattle.council_core.specs.Coalitions.{Rule, omega_of, eta_of, threshold_rule}
 use Rattle.half_sums.specs.declared.entry.Entry.{Entry}
-use Rattle.swing_walk.specs.Pairs.{large_pairs, large_with, swings_of}
+use Rattle.swing_walk.specs.Pairs.{winning_pairs, winning_with, swings_of}
 use Rattle.power_index.specs.Halves.{AreHalves, open_chair_place}
 
 -- the swings of the chairs of a board, in their order
@@ -25,5 +25,5 @@ pub record AreCounts (quota least_size : ℕ) (words : List ℕ) (winning : ℕ)
 -- the pairs of the entries of the two halves count the coalitions of the sheet
 abbrev pub EvaluationLaw : Type 0
 EvaluationLaw = (quota least_size : ℕ) (words : List ℕ) (left right : List Entry) → AreHalves words left right →
-    AreCounts quota least_size words (large_pairs quota least_size left right)
-    (λ place. large_with quota least_size place left right)
+    AreCounts quota least_size words (winning_pairs quota least_size left right)
+    (λ place. winning_with quota least_size place left right)

@@ -1,10 +1,11 @@
 -- The two halves of a sheet (Horowitz and Sahni 1974): the first half of its open chairs, by
 -- number, is on the left, including the middle one of an odd number, and the others are on the
 -- right, each at slots from 0.
-use Rattle.std.specs.Prelude.{ℕ, ◌+◌, ◌-◌, ◌/◌, Bool, not, if◌then◌else◌, List, [], ◌∷◌, map}
+use Rattle.std.specs.Prelude.{ℕ, ◌+◌, ◌-◌, ◌/◌, Bool, not, if◌then◌else◌, List, map}
 use Rattle.std.specs.Prelude.{length, take, drop, nat_eq, nat_lt}
+use Rattle.std.specs.List.{enumerate_from}
 use Rattle.std.specs.Cmp.Lexicographic.{pointwise}
-use Rattle.council_core.specs.Sheets.{Chair, open_chairs}
+use Rattle.council_core.specs.Sheets.{open_chairs}
 use Rattle.half_sums.specs.declared.entry.Entry.{Entry}
 use Rattle.half_sums.specs.Entries.{AreSubsets}
 use Rattle.half_sums.specs.declared.groups.TheConstants.{SLOTS}
@@ -23,15 +24,11 @@ left_weights words = take (left_count (length (open_chairs words))) (weights wor
 abbrev pub right_weights : List ℕ → List ℕ
 right_weights words = drop (left_count (length (open_chairs words))) (weights words)
 
--- chairs of these weights, at consecutive slots from `slot` on
-abbrev pub chairs_from_slot : ℕ → List ℕ → List Chair
-chairs_from_slot slot [] = []
-chairs_from_slot slot (weight ∷ rest) = (slot, weight) ∷ chairs_from_slot (slot + 1) rest
-
--- two lists of entries are those of the two halves of a sheet
+-- two lists of entries are those of the two halves of a sheet: a chair of a half is a slot and a
+-- weight
 pub record AreHalves (words : List ℕ) (left right : List Entry) : Type 0 where
-  pub left_half : AreSubsets (chairs_from_slot 0 (left_weights words)) left
-  pub right_half : AreSubsets (chairs_from_slot 0 (right_weights words)) right
+  pub left_half : AreSubsets (enumerate_from 0 (left_weights words)) left
+  pub right_half : AreSubsets (enumerate_from 0 (right_weights words)) right
 
 -- the place in the counts of an open chair with `before` open chairs before it, if `on_left` chairs
 -- are on the left: its slot on the left, or 16 plus its slot on the right

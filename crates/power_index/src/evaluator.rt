@@ -54,7 +54,7 @@ impl Evaluator {
 
     /// Replaces the sheet. Returns the number of blocks, of chairs 1 to 16 and of chairs 17 to 32,
     /// whose words differ from the previous sheet: 0, 1 or 2. The total and the front belong to
-    /// neither block.
+    /// neither block. It doesn't say which lists are rebuilt.
     ///
     /// The open chairs, in the order of their numbers, are split in the middle into two lists; an
     /// odd one belongs to the first. A list is rebuilt if its weights differ from the previous ones,

@@ -1,10 +1,11 @@
 //! The halves of a sheet: the first half of its open chairs, by number, is on the left, and the
 //! others are on the right.
 ghost use Rattle.std.specs.Prelude.{◌≡◌, ◌+◌, ◌<◌, ◌≤◌, ℕ, not, length, sum_by, slice_index};
+ghost use Rattle.std.specs.List.{enumerate_from};
 ghost use Rattle.council_core.specs.declared.limits.TheConstants.{MAX_TOTAL};
 ghost use Rattle.council_core.specs.Sheets.{open_chairs};
 ghost use Rattle.half_sums.specs.Entries.{AreSubsets};
-ghost use Rattle.power_index.specs.Halves.{weights, chairs_from_slot, left_count, place_in_counts, same_block, one_if};
+ghost use Rattle.power_index.specs.Halves.{weights, left_count, place_in_counts, same_block, one_if};
 
 use arrayvec::ArrayVec;
 use council_core::{CHAIRS, SHEET_WORDS, Sheet};
@@ -34,7 +35,7 @@ pub(crate) fn on_left(chairs: usize) -> usize
 // The chairs with these weights, at the slots from 0 on.
 pub(crate) fn chairs_of(weights: &[u64]) -> ArrayVec<(u8, u64), SLOTS>
     requires bound { length weights.now ≤ SLOTS }
-    ensures chairs { result.items ≡ chairs_from_slot 0 weights.now }
+    ensures chairs { result.items ≡ enumerate_from 0 weights.now }
 {
     let mut chairs = ArrayVec::new();
     for slot in 0..weights.len() {
@@ -60,8 +61,8 @@ pub(crate) fn differ(old: &[u64; SHEET_WORDS], new: &[u64; SHEET_WORDS], from: u
 pub(crate) fn refresh(half: &mut OrderedSums, old: &[u64], new: &[u64])
     requires bound { length new.now ≤ SLOTS }
     requires small { sum_by (λ n. n) new.now ≤ MAX_TOTAL }
-    requires before { AreSubsets (chairs_from_slot 0 old.now) half.old }
-    ensures after { AreSubsets (chairs_from_slot 0 new.now) half.new }
+    requires before { AreSubsets (enumerate_from 0 old.now) half.old }
+    ensures after { AreSubsets (enumerate_from 0 new.now) half.new }
 {
     if old == new {
         return;

@@ -1,9 +1,9 @@
 //! The indices of a sheet, counted in memory that the caller lends. No call here allocates.
 ghost use Rattle.std.specs.Prelude.{◌≡◌, ◌≤◌, length, replicate, sum_by};
+ghost use Rattle.std.specs.List.{enumerate_from};
 ghost use Rattle.council_core.specs.declared.limits.TheConstants.{MAX_TOTAL};
 ghost use Rattle.half_sums.specs.declared.lists.TheConstants.{ROOM};
 ghost use Rattle.half_sums.specs.Entries.{AreSubsets};
-ghost use Rattle.power_index.specs.Halves.{chairs_from_slot};
 ghost use Rattle.power_index.specs.Indices.{AreIndices, indices_of};
 
 use crate::halves::{chairs_of, on_left, weights_of};
@@ -99,7 +99,7 @@ fn listed<'a>(weights: &[u64], words: &'a mut [u64]) -> SumList<'a>
     requires bound { length weights.now ≤ SLOTS }
     requires small { sum_by (λ n. n) weights.now ≤ MAX_TOTAL }
     requires room { length words.old ≡ ROOM }
-    ensures subsets { AreSubsets (chairs_from_slot 0 weights.now) result }
+    ensures subsets { AreSubsets (enumerate_from 0 weights.now) result }
 {
     let count = 1usize << weights.len();
     list_subsets(chairs_of(weights).as_slice(), &mut words[..count])

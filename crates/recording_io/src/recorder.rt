@@ -4,7 +4,7 @@ ghost use Rattle.recording_io.specs.Tapes.{IsSameWriter, RecordsWrite, WriterRec
 
 use std::io;
 
-/// A writer whose contracts know its writes, such as a `RecordingWriter`.
+/// A writer that records its writes for contracts, such as a `RecordingWriter`.
 pub trait Recorder {
     // What the writer has recorded.
     ghost recorded: { Self → WriterRecord };

@@ -15,7 +15,7 @@ use Rattle.council_core.specs.Coalitions.{subsets, has_chair, omega_of, omega_wi
 use Rattle.half_sums.specs.declared.entry.Entry.{Entry}
 use Rattle.half_sums.specs.Entries.{AreSubsets}
 use Rattle.half_sums.proofs.Face.{chairs_within_slots, first_apart, length_of_half, of_others, or_left, or_right, subsets_avoid}
-use Rattle.swing_walk.specs.Pairs.{large_pairs, large_with, reaches, is_large, swings_of}
+use Rattle.swing_walk.specs.Pairs.{winning_pairs, winning_with, reaches, has_size, swings_of}
 use Rattle.swing_walk.specs.Laws.{board_of, CoalitionLaw, AreHalf, TwoHalvesLaw, PairsAreCoalitions}
 use Rattle.swing_walk.proofs.Counting.{count_none, pairs_bound}
 use Rattle.swing_walk.proofs.Coalitions.{swing_law, count_law, bound_law, reaching_rule}
@@ -146,10 +146,10 @@ two_halves_law quota least_size left right from to half_left half_right are_left
     let p : PairsAreCoalitions quota least_size left right from to = pair_law quota least_size left right from to half_left half_right are_left are_right in
     let distinct : IsDistinct eqb (map (λ (c : Chair). c.0) board) = board_distinct left right half_left.slots half_left.distinct half_right.distinct in
     let area : length from * length to ≤ ROOM * ROOM = mul-le-mul (entries_few left from half_left are_left) (entries_few right to half_right are_right) in
-    let as_omega : (place : ℕ) → swings_of (large_pairs quota least_size from to) (large_with quota least_size place from to) ≡ swings_of (omega_of (threshold_rule quota least_size) board) (omega_with (threshold_rule quota least_size) place board) =
-    λ place. ap (λ n. swings_of n (large_with quota least_size place from to)) p.winning ∙ ap (swings_of (omega_of (threshold_rule quota least_size) board)) (p.with_chair place) in
+    let as_omega : (place : ℕ) → swings_of (winning_pairs quota least_size from to) (winning_with quota least_size place from to) ≡ swings_of (omega_of (threshold_rule quota least_size) board) (omega_with (threshold_rule quota least_size) place board) =
+    λ place. ap (λ n. swings_of n (winning_with quota least_size place from to)) p.winning ∙ ap (swings_of (omega_of (threshold_rule quota least_size) board)) (p.with_chair place) in
     record {
-      bound = omega (arith, pairs_bound (λ l r. reaches quota l r && is_large least_size l r) from to, area);
+      bound = omega (arith, pairs_bound (λ l r. reaches quota l r && has_size least_size l r) from to, area);
       within = λ place. omega (arith, p.winning, p.with_chair place, bound_law quota least_size place board);
       half = λ place some. omega (arith, p.winning, p.with_chair place, half_or_none quota least_size place board (has_chair place board) refl distinct (omega (arith, some, p.with_chair place)));
       swings = λ before after chair is. as_omega chair.0

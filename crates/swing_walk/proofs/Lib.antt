@@ -6,7 +6,7 @@ mod Weights
 mod Steps
 mod Meeting
 mod SizeLemmas
-mod LargePairs
+mod WinningPairs
 mod WalkCases
 mod WorkedCases
 mod LimitCases

@@ -6,7 +6,7 @@ use Rattle.council_core.specs.Sheets.{Chair}
 use Rattle.half_sums.specs.declared.entry.Entry.{Entry}
 use Rattle.half_sums.specs.Entries.{AreSubsets, entries_of, three_chairs}
 use Rattle.swing_walk.specs.Laws.{AreHalf, BoundLaw, CoalitionLaw, CountLaw, CountsMeet, PairLaw, PairsAreCoalitions, SwingLaw, TwoHalvesLaw, board_of, pairs_of_sets}
-use Rattle.swing_walk.specs.Pairs.{has_place, is_large, large_pairs, large_with, reaches, swings_of}
+use Rattle.swing_walk.specs.Pairs.{has_place, has_size, winning_pairs, winning_with, reaches, swings_of}
 use Rattle.swing_walk.specs.Sizes.{at_least, one_at, partners_of}
 use Rattle.swing_walk.specs.Tables.{high_weight, low_weight, weighted_sum}
 
@@ -21,7 +21,7 @@ swings_by_counts = (refl, refl, refl, refl, refl)
 quota_reached : (reaches 51 (set 50 1) (set 1 1) ≡ true) × (reaches 52 (set 50 1) (set 1 1) ≡ false) × (reaches 0 (set 0 0) (set 0 0) ≡ true)
 quota_reached = (refl, refl, refl)
 
-sizes_reached : (is_large 2 (set 50 1) (set 1 1) ≡ true) × (is_large 3 (set 50 1) (set 1 1) ≡ false) × (is_large 0 (set 0 0) (set 0 0) ≡ true)
+sizes_reached : (has_size 2 (set 50 1) (set 1 1) ≡ true) × (has_size 3 (set 50 1) (set 1 1) ≡ false) × (has_size 0 (set 0 0) (set 0 0) ≡ true)
 unfolding lib.Count.ones
 sizes_reached = (refl, refl, refl)
 
@@ -39,15 +39,15 @@ left = entries_of ((0, 50) ∷ [])
 abbrev right : List Entry
 right = entries_of ((0, 49) ∷ (1, 1) ∷ [])
 
-pairs_of_three : (large_pairs 51 0 left right ≡ 3) × (large_pairs 50 0 left right ≡ 5) × (large_pairs 50 2 left right ≡ 4) × (large_pairs 101 0 left right ≡ 0)
+pairs_of_three : (winning_pairs 51 0 left right ≡ 3) × (winning_pairs 50 0 left right ≡ 5) × (winning_pairs 50 2 left right ≡ 4) × (winning_pairs 101 0 left right ≡ 0)
 unfolding lib.Count.ones
 pairs_of_three = (refl, refl, refl, refl)
 
-pairs_with_each : (large_with 51 0 0 left right ≡ 3) × (large_with 51 0 1 left right ≡ 0) × (large_with 51 0 16 left right ≡ 2) × (large_with 51 0 17 left right ≡ 2) × (large_with 51 0 18 left right ≡ 0)
+pairs_with_each : (winning_with 51 0 0 left right ≡ 3) × (winning_with 51 0 1 left right ≡ 0) × (winning_with 51 0 16 left right ≡ 2) × (winning_with 51 0 17 left right ≡ 2) × (winning_with 51 0 18 left right ≡ 0)
 unfolding lib.Count.ones
 pairs_with_each = (refl, refl, refl, refl, refl)
 
--- of three chairs' sets, those of at least each size, and those with which a set of one chair is large enough
+-- of three chairs' sets, those of at least each size, and those with which a set of one chair has enough chairs
 sets_of_at_least : (at_least 0 (entries_of three_chairs) ≡ 8) × (at_least 1 (entries_of three_chairs) ≡ 7) × (at_least 3 (entries_of three_chairs) ≡ 1) × (at_least 4 (entries_of three_chairs) ≡ 0)
 unfolding lib.Count.ones
 sets_of_at_least = (refl, refl, refl, refl)
@@ -77,13 +77,13 @@ slot_twice h = true≢false h.distinct.0.0
 
 -- what the counts of three chairs and an empty half say
 pairs_counted : (from to : List Entry) → PairsAreCoalitions 51 0 three_chairs [] from to
-    → (large_pairs 51 0 from to ≡ 3) × (large_with 51 0 0 from to ≡ 3) × (large_with 51 0 1 from to ≡ 2) × (large_with 51 0 16 from to ≡ 0)
+    → (winning_pairs 51 0 from to ≡ 3) × (winning_with 51 0 0 from to ≡ 3) × (winning_with 51 0 1 from to ≡ 2) × (winning_with 51 0 16 from to ≡ 0)
 pairs_counted from to h = (h.winning, h.with_chair 0, h.with_chair 1, h.with_chair 16)
 
 counts_met : (from to : List Entry) → CountsMeet 51 0 three_chairs [] from to
-    → (large_pairs 51 0 from to ≤ 2 ^ 32) × (large_with 51 0 1 from to ≤ large_pairs 51 0 from to) × (0 < large_with 51 0 1 from to → large_pairs 51 0 from to ≤ 2 * large_with 51 0 1 from to)
-    × (swings_of (large_pairs 51 0 from to) (large_with 51 0 0 from to) ≡ 3) × (swings_of (large_pairs 51 0 from to) (large_with 51 0 1 from to) ≡ 1)
-    × (swings_of (large_pairs 51 0 from to) (large_with 51 0 3 from to) ≡ 0)
+    → (winning_pairs 51 0 from to ≤ 2 ^ 32) × (winning_with 51 0 1 from to ≤ winning_pairs 51 0 from to) × (0 < winning_with 51 0 1 from to → winning_pairs 51 0 from to ≤ 2 * winning_with 51 0 1 from to)
+    × (swings_of (winning_pairs 51 0 from to) (winning_with 51 0 0 from to) ≡ 3) × (swings_of (winning_pairs 51 0 from to) (winning_with 51 0 1 from to) ≡ 1)
+    × (swings_of (winning_pairs 51 0 from to) (winning_with 51 0 3 from to) ≡ 0)
 counts_met from to h =
     (h.bound, h.within 1, h.half 1, h.swings [] ((1, 49) ∷ (2, 1) ∷ []) (0, 50) refl, h.swings ((0, 50) ∷ []) ((2, 1) ∷ []) (1, 49) refl, h.vacant 3 refl)
 
@@ -100,8 +100,8 @@ counts_used law quota = law quota 2 [] ((1, 49) ∷ (2, 1) ∷ []) (0, 50) refl
 bound_used : BoundLaw → (quota : ℕ) → omega_with (threshold_rule quota 2) 5 three_chairs ≤ omega_of (threshold_rule quota 2) three_chairs
 bound_used law quota = law quota 2 5 three_chairs
 
-pairs_used : PairLaw → (from to : List Entry) → AreHalf three_chairs → AreHalf [] → AreSubsets three_chairs from → AreSubsets [] to → large_pairs 51 0 from to ≡ 3
+pairs_used : PairLaw → (from to : List Entry) → AreHalf three_chairs → AreHalf [] → AreSubsets three_chairs from → AreSubsets [] to → winning_pairs 51 0 from to ≡ 3
 pairs_used law from to left right are_from are_to = (law 51 0 three_chairs [] from to left right are_from are_to).winning
 
-halves_used : TwoHalvesLaw → (from to : List Entry) → AreHalf three_chairs → AreHalf [] → AreSubsets three_chairs from → AreSubsets [] to → large_pairs 51 0 from to ≤ 2 ^ 32
+halves_used : TwoHalvesLaw → (from to : List Entry) → AreHalf three_chairs → AreHalf [] → AreSubsets three_chairs from → AreSubsets [] to → winning_pairs 51 0 from to ≤ 2 ^ 32
 halves_used law from to left right are_from are_to = (law 51 0 three_chairs [] from to left right are_from are_to).bound

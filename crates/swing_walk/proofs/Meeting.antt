@@ -12,15 +12,15 @@ use Rattle.half_sums.specs.Entries.{zero_entry}
 use Rattle.half_sums.specs.Entries.{entry_at}
 use Rattle.swing_walk.specs.Pairs.{pairs_where, with_slot}
 use Rattle.swing_walk.specs.Sizes.{partners_next}
-use Rattle.swing_walk.specs.Walks.{IsBetween, IsPassed, HasCredited, PartnerCounts, StandsAt, enough, position_after, turned_route, votes_at}
+use Rattle.swing_walk.specs.Walks.{IsBetween, IsPassed, HasCredited, PartnerCounts, StandsAt, wins_on, position_after, turned_route, votes_at}
 use Rattle.swing_walk.specs.Tallies.{slot_amount, tally_total, CreditsEach}
-use Rattle.swing_walk.specs.Sides.{side}
+use Rattle.swing_walk.specs.Sides.{tally_at}
 use Rattle.swing_walk.specs.declared.positions.Next.{Next}
 use Rattle.swing_walk.specs.declared.positions.Position.{Position}
 use Rattle.swing_walk.specs.declared.positions.Route.{Route}
 use Rattle.swing_walk.specs.declared.tally.MaskTally.{MaskTally}
 use Rattle.swing_walk.proofs.Counting.{Splits, pairs_more}
-use Rattle.swing_walk.proofs.LargePairs.{count_enough, count_slot}
+use Rattle.swing_walk.proofs.WinningPairs.{count_winning, count_slot}
 
 -- an entry's sum, at any default
 sum_default : (es : List Entry) (i : ℕ) (d e : Entry) → i < length es → (get_or es i d).sum ≡ (get_or es i e).sum
@@ -29,15 +29,15 @@ sum_default es i d e h = ap (λ (x : Entry). x.sum) (get_or_default es i d e h)
 -- a step comes to the next position, and adds the partners of the entry that it passes, also at each of that entry's slots
 record Rises (next : Next) (route : Route) (position : Position) : Type 0 where
   pub between : IsBetween route (record { up = position.up + 1; rest = position.rest })
-  pub total : pairs_where (enough route) (take (position.up + 1) route.rising) route.falling ≡ pairs_where (enough route) (take position.up route.rising) route.falling + partners_next false next route position
-  pub marks : (slot : ℕ) → pairs_where (with_slot slot (enough route)) (take (position.up + 1) route.rising) route.falling
-      ≡ pairs_where (with_slot slot (enough route)) (take position.up route.rising) route.falling + bit_at next.low.mask slot * partners_next false next route position
+  pub total : pairs_where (wins_on route) (take (position.up + 1) route.rising) route.falling ≡ pairs_where (wins_on route) (take position.up route.rising) route.falling + partners_next false next route position
+  pub marks : (slot : ℕ) → pairs_where (with_slot slot (wins_on route)) (take (position.up + 1) route.rising) route.falling
+      ≡ pairs_where (with_slot slot (wins_on route)) (take position.up route.rising) route.falling + bit_at next.low.mask slot * partners_next false next route position
 
 record Falls (next : Next) (route : Route) (position : Position) : Type 0 where
   pub between : IsBetween route (record { up = position.up; rest = position.rest - 1 })
-  pub total : pairs_where (enough route) (drop (position.rest - 1) route.falling) route.rising ≡ pairs_where (enough route) (drop position.rest route.falling) route.rising + partners_next true next route position
-  pub marks : (slot : ℕ) → pairs_where (with_slot slot (enough route)) (drop (position.rest - 1) route.falling) route.rising
-      ≡ pairs_where (with_slot slot (enough route)) (drop position.rest route.falling) route.rising + bit_at next.high.mask slot * partners_next true next route position
+  pub total : pairs_where (wins_on route) (drop (position.rest - 1) route.falling) route.rising ≡ pairs_where (wins_on route) (drop position.rest route.falling) route.rising + partners_next true next route position
+  pub marks : (slot : ℕ) → pairs_where (with_slot slot (wins_on route)) (drop (position.rest - 1) route.falling) route.rising
+      ≡ pairs_where (with_slot slot (wins_on route)) (drop position.rest route.falling) route.rising + bit_at next.high.mask slot * partners_next true next route position
 
 module _ (next : Next) (route : Route) (position : Position) (b : IsBetween route position) where
   ups : IsNonDecreasingBy (λ e. e.sum) route.rising
@@ -64,7 +64,7 @@ module _ (next : Next) (route : Route) (position : Position) (b : IsBetween rout
     within = b.up_in;
     short = λ k d h.
         let before : k < position.up = omega (arith, length-take position.up route.rising) in
-        rw (get_or-take position.up route.rising k d before) (omega (arith, b.apart k (position.rest - 1) before (omega (arith, is.0)), sum_default route.rising k d zero_entry (omega (arith, b.up_in))));
+        rw (get_or-take position.up route.rising k d before) (omega (arith, b.short k (position.rest - 1) before (omega (arith, is.0)), sum_default route.rising k d zero_entry (omega (arith, b.up_in))));
     reached = λ k d h.
         let within : position.up + k < length route.rising = omega (arith, length-drop position.up route.rising) in
         rw (get_or-drop position.up route.rising k d) (omega (arith, is.2 (omega arith), ups position.up (position.up + k) zero_entry (omega arith) within, sum_default route.rising (position.up + k) d zero_entry within));
@@ -72,19 +72,19 @@ module _ (next : Next) (route : Route) (position : Position) (b : IsBetween rout
 
   rises : IsPassed false next route position → Rises next route position
   rises is =
-      let partners : count_by (enough route next.low) route.falling ≡ partners_next false next route position =
-      count_enough route.quota route.least_size position.rest next.low route.falling (subst (λ (e : Entry). Splits route.quota e.sum position.rest route.falling) (sym is.1) (rising_splits is)) in
+      let partners : count_by (wins_on route next.low) route.falling ≡ partners_next false next route position =
+      count_winning route.quota route.least_size position.rest next.low route.falling (subst (λ (e : Entry). Splits route.quota e.sum position.rest route.falling) (sym is.1) (rising_splits is)) in
       let more : (test : Entry → Entry → Bool) → pairs_where test (take (position.up + 1) route.rising) route.falling ≡ pairs_where test (take position.up route.rising) route.falling + count_by (test next.low) route.falling =
       λ test. rw is.1 (pairs_more test route.rising route.falling position.up zero_entry is.0) in
       record {
         between = record {
           up_in = omega (arith, is.0);
           rest_in = b.rest_in;
-          apart = λ k m before below. omega (arith, is.2 (omega arith), ups k position.up zero_entry (omega arith) is.0, downs m (position.rest - 1) zero_entry (omega arith) (omega (arith, b.rest_in)));
+          short = λ k m before below. omega (arith, is.2 (omega arith), ups k position.up zero_entry (omega arith) is.0, downs m (position.rest - 1) zero_entry (omega arith) (omega (arith, b.rest_in)));
           reached = λ k m from. b.reached k m (omega arith);
         };
-        total = omega (arith, more (enough route), partners);
-        marks = λ slot. omega (arith, more (with_slot slot (enough route)), count_slot (enough route next.low) slot next.low route.falling, ap (λ n. bit_at next.low.mask slot * n) partners);
+        total = omega (arith, more (wins_on route), partners);
+        marks = λ slot. omega (arith, more (with_slot slot (wins_on route)), count_slot (wins_on route next.low) slot next.low route.falling, ap (λ n. bit_at next.low.mask slot * n) partners);
       }
 
   falls_at : IsPassed true next route position → Falls next route position
@@ -92,22 +92,22 @@ module _ (next : Next) (route : Route) (position : Position) (b : IsBetween rout
       let last : ℕ = position.rest - 1 in
       let behind : last + 1 ≡ position.rest = omega (arith, is.0) in
       let within : last < length route.falling = omega (arith, is.0, b.rest_in) in
-      let partners : count_by (enough route next.high) route.rising ≡ partners_next true next route position =
-      count_enough route.quota route.least_size position.up next.high route.rising (subst (λ (e : Entry). Splits route.quota e.sum position.up route.rising) (sym is.1) (falling_splits is)) in
+      let partners : count_by (wins_on route next.high) route.rising ≡ partners_next true next route position =
+      count_winning route.quota route.least_size position.up next.high route.rising (subst (λ (e : Entry). Splits route.quota e.sum position.up route.rising) (sym is.1) (falling_splits is)) in
       let more : (test : Entry → Entry → Bool) → pairs_where test (drop last route.falling) route.rising ≡ pairs_where test (drop position.rest route.falling) route.rising + count_by (test next.high) route.rising =
       λ test. omega (arith, sum_by-drop_more (λ e. count_by (test e) route.rising) route.falling last zero_entry within, ap (λ i. pairs_where test (drop i route.falling) route.rising) behind, ap (λ e. count_by (test e) route.rising) is.1) in
       record {
         between = record {
           up_in = b.up_in;
           rest_in = omega (arith, b.rest_in);
-          apart = λ k m before below. b.apart k m before (omega arith);
+          short = λ k m before below. b.short k m before (omega arith);
           reached = λ k m from inside above below. elim (cases_lt m position.rest) as (λ _. route.quota ≤ votes_at route k m) [
             | inl fresh ↦ (let same : last ≡ m = omega arith in omega (arith, ap (λ i. (entry_at route.falling i).sum) same, is.2 (omega arith), ups position.up k zero_entry from inside))
             | inr passed ↦ b.reached k m from inside passed below
           ];
         };
-        total = omega (arith, more (enough route), partners);
-        marks = λ slot. omega (arith, more (with_slot slot (enough route)), count_slot (enough route next.high) slot next.high route.rising, ap (λ n. bit_at next.high.mask slot * n) partners);
+        total = omega (arith, more (wins_on route), partners);
+        marks = λ slot. omega (arith, more (with_slot slot (wins_on route)), count_slot (wins_on route next.high) slot next.high route.rising, ap (λ n. bit_at next.high.mask slot * n) partners);
       }
 
 -- what the first entries and those from there on come to is what all do
@@ -122,10 +122,10 @@ pub record Pass (falls : Bool) (next : Next) (route : Route) (position : Positio
   pub is_next : IsPassed falls next route position
   pub credited : HasCredited route position old
   pub partners : amount ≡ partners_next falls next route position
-  pub rising_total : tally_total (side 0 new) ≡ tally_total (side 0 old) + cond falls 0 amount
-  pub rising_marked : (slot : ℕ) → slot_amount slot (side 0 new) ≡ slot_amount slot (side 0 old) + bit_at (cond falls next.high.mask next.low.mask) slot * cond falls 0 amount
-  pub falling_total : tally_total (side 1 new) ≡ tally_total (side 1 old) + cond falls amount 0
-  pub falling_marked : (slot : ℕ) → slot_amount slot (side 1 new) ≡ slot_amount slot (side 1 old) + bit_at (cond falls next.high.mask next.low.mask) slot * cond falls amount 0
+  pub rising_total : tally_total (tally_at 0 new) ≡ tally_total (tally_at 0 old) + cond falls 0 amount
+  pub rising_marked : (slot : ℕ) → slot_amount slot (tally_at 0 new) ≡ slot_amount slot (tally_at 0 old) + bit_at (cond falls next.high.mask next.low.mask) slot * cond falls 0 amount
+  pub falling_total : tally_total (tally_at 1 new) ≡ tally_total (tally_at 1 old) + cond falls amount 0
+  pub falling_marked : (slot : ℕ) → slot_amount slot (tally_at 1 new) ≡ slot_amount slot (tally_at 1 old) + bit_at (cond falls next.high.mask next.low.mask) slot * cond falls amount 0
 
 pub record Passed (route : Route) (position : Position) (new : List MaskTally) : Type 0 where
   pub between : IsBetween route position
@@ -211,23 +211,23 @@ module _ {P Q : PartnerCounts} (route : Route) (front back : Position) (front_ta
       let lefts : front.up ≡ back.rest = elim (cases_lt front.up back.rest) as (λ _. front.up ≡ back.rest) [
         | inl fewer ↦ (
             -- a pair that reaches by the front chain, and falls short by the back one
-            absurd (omega (arith, all, f.between.reached front.up front.rest (omega arith) (omega (arith, b.between.rest_in)) (omega arith) (omega (arith, all, b.between.up_in)), b.between.apart front.rest front.up (omega (arith, all)) (omega arith))))
+            absurd (omega (arith, all, f.between.reached front.up front.rest (omega arith) (omega (arith, b.between.rest_in)) (omega arith) (omega (arith, all, b.between.up_in)), b.between.short front.rest front.up (omega (arith, all)) (omega arith))))
         | inr most ↦ elim (cases_lt back.rest front.up) as (λ _. front.up ≡ back.rest) [
           | inl more ↦ (let k : ℕ = front.up - 1 in let m : ℕ = front.rest - 1 in
-              absurd (omega (arith, f.between.apart k m (omega arith) (omega (arith, all)), b.between.reached m k (omega (arith, all)) (omega (arith, all, f.between.rest_in)) (omega arith) (omega (arith, f.between.up_in)))))
+              absurd (omega (arith, f.between.short k m (omega arith) (omega (arith, all)), b.between.reached m k (omega (arith, all)) (omega (arith, all, f.between.rest_in)) (omega arith) (omega (arith, f.between.up_in)))))
           | inr least ↦ omega arith
         ]
       ] in
       (lefts, omega (arith, all))
 
-  pub lefts_credited : CreditsEach (enough route) route.rising route.falling (side 0 front_tallies) (side 1 back_tallies)
+  pub lefts_credited : CreditsEach (wins_on route) route.rising route.falling (tally_at 0 front_tallies) (tally_at 1 back_tallies)
   lefts_credited = record {
-    totals = omega (arith, f.credited.rising_total, b.credited.falling_total, both_parts (enough route) route.rising route.falling front.up back.rest meet.0);
-    marks = λ slot. omega (arith, f.credited.rising_marked slot, b.credited.falling_marked slot, both_parts (with_slot slot (enough route)) route.rising route.falling front.up back.rest meet.0);
+    totals = omega (arith, f.credited.rising_total, b.credited.falling_total, both_parts (wins_on route) route.rising route.falling front.up back.rest meet.0);
+    marks = λ slot. omega (arith, f.credited.rising_marked slot, b.credited.falling_marked slot, both_parts (with_slot slot (wins_on route)) route.rising route.falling front.up back.rest meet.0);
   }
 
-  pub rights_credited : CreditsEach (enough route) route.falling route.rising (side 0 back_tallies) (side 1 front_tallies)
+  pub rights_credited : CreditsEach (wins_on route) route.falling route.rising (tally_at 0 back_tallies) (tally_at 1 front_tallies)
   rights_credited = record {
-    totals = omega (arith, b.credited.rising_total, f.credited.falling_total, both_parts (enough route) route.falling route.rising back.up front.rest meet.1);
-    marks = λ slot. omega (arith, b.credited.rising_marked slot, f.credited.falling_marked slot, both_parts (with_slot slot (enough route)) route.falling route.rising back.up front.rest meet.1);
+    totals = omega (arith, b.credited.rising_total, f.credited.falling_total, both_parts (wins_on route) route.falling route.rising back.up front.rest meet.1);
+    marks = λ slot. omega (arith, b.credited.rising_marked slot, f.credited.falling_marked slot, both_parts (with_slot slot (wins_on route)) route.falling route.rising back.up front.rest meet.1);
   }

@@ -13,7 +13,7 @@ use Rattle.council_core.specs.Sheets.{weight_of}
 use Rattle.council_core.specs.Coalitions.{subsets, has_chair, threshold_rule}
 use Rattle.half_sums.specs.Entries.{entry_of, AreSubsets}
 use Rattle.half_sums.specs.Groups.{size_of}
-use Rattle.swing_walk.specs.Pairs.{pairs_where, reaches, has_slot, has_place, is_large}
+use Rattle.swing_walk.specs.Pairs.{pairs_where, reaches, has_slot, has_place, has_size}
 use Rattle.swing_walk.specs.Laws.{board_of, PairLaw}
 use Rattle.half_sums.proofs.Face.{mask_has, over, over-cons, sets_sized, subsets_avoid, sum_agree, sum_agree_on, sum_by-map}
 use Rattle.swing_walk.proofs.Coalitions.{over-append}
@@ -94,9 +94,9 @@ sizes_both a b in_a in_b = omega (arith, in_a, in_b, length-append a (map shifte
 
 -- a pair of sets wins where its entries do
 wins_both : (quota least_size : ℕ) (a b : List (ℕ × ℕ)) → size_of (entry_of a) ≡ length a → size_of (entry_of b) ≡ length b →
-    (reaches quota (entry_of a) (entry_of b) && is_large least_size (entry_of a) (entry_of b)) ≡ threshold_rule quota least_size (a ++ map shifted b)
+    (reaches quota (entry_of a) (entry_of b) && has_size least_size (entry_of a) (entry_of b)) ≡ threshold_rule quota least_size (a ++ map shifted b)
 wins_both quota least_size a b in_a in_b =
-    ap (λ n. leb quota n && is_large least_size (entry_of a) (entry_of b)) (sym (weight_both a b))
+    ap (λ n. leb quota n && has_size least_size (entry_of a) (entry_of b)) (sym (weight_both a b))
     ∙ ap (λ n. leb quota (weight_of (a ++ map shifted b)) && leb least_size n) (sym (sizes_both a b in_a in_b))
 
 -- sums over pairs of sets that agree wherever sets are of a half
@@ -114,16 +114,16 @@ pair_law quota least_size left right from to half_left half_right are_left are_r
     let sized_right : All sized (subsets right) = sets_sized right half_right.distinct in
     let sized_left : All sized (subsets left) = sets_sized left half_left.distinct in
     record {
-      winning = pairs_over (λ l r. reaches quota l r && is_large least_size l r) left right from to are_left are_right
-          ∙ pairs_agree (λ a b. cond (reaches quota (entry_of a) (entry_of b) && is_large least_size (entry_of a) (entry_of b)) 1 0) (λ a b. cond (threshold_rule quota least_size (a ++ map shifted b)) 1 0) sized sized left right
+      winning = pairs_over (λ l r. reaches quota l r && has_size least_size l r) left right from to are_left are_right
+          ∙ pairs_agree (λ a b. cond (reaches quota (entry_of a) (entry_of b) && has_size least_size (entry_of a) (entry_of b)) 1 0) (λ a b. cond (threshold_rule quota least_size (a ++ map shifted b)) 1 0) sized sized left right
           (λ a b in_a in_b. ap (λ t. cond t 1 0) (wins_both quota least_size a b in_a in_b)) sized_left sized_right
           ∙ sym (board_over (λ s. cond (threshold_rule quota least_size s) 1 0) left right);
       with_chair = λ place.
           (let g : C → ℕ = λ s. cond (has_chair place s && threshold_rule quota least_size s) 1 0 in
           let low : C → Type 0 = λ s. sized s × (SLOTS ≤ place → has_chair place s ≡ false) in
           let low_left : All low (subsets left) = λ k d h. (sized_left k d h, λ t. subsets_avoid (λ (c : ℕ × ℕ). eqb c.0 place) left (absent_left place left half_left.slots t) k d h) in
-          pairs_over (λ l r. (reaches quota l r && is_large least_size l r) && has_place place l r) left right from to are_left are_right
-          ∙ pairs_agree (λ a b. cond ((reaches quota (entry_of a) (entry_of b) && is_large least_size (entry_of a) (entry_of b)) && has_place place (entry_of a) (entry_of b)) 1 0) (λ a b. g (a ++ map shifted b)) low sized left right
+          pairs_over (λ l r. (reaches quota l r && has_size least_size l r) && has_place place l r) left right from to are_left are_right
+          ∙ pairs_agree (λ a b. cond ((reaches quota (entry_of a) (entry_of b) && has_size least_size (entry_of a) (entry_of b)) && has_place place (entry_of a) (entry_of b)) 1 0) (λ a b. g (a ++ map shifted b)) low sized left right
           (λ a b in_a in_b. ap (λ u. cond u 1 0) (and_turned _ _ _ _ (wins_both quota least_size a b in_a.0 in_b) (has_both place a b in_a.1))) low_left sized_right
           ∙ sym (board_over g left right));
     }

@@ -11,7 +11,7 @@ use Rattle.half_sums.specs.Groups.{size_of, fewer_than}
 use Rattle.half_sums.specs.Entries.{entry_at}
 use Rattle.half_sums.proofs.Face.{sizes_few}
 use Rattle.swing_walk.specs.Sizes.{partners_next, partners_of, at_least, one_at, tally_of_size, CountsBySize}
-use Rattle.swing_walk.specs.Sides.{size_side}
+use Rattle.swing_walk.specs.Sides.{sizes_at}
 use Rattle.swing_walk.specs.Walks.{IsPassed, position_after}
 use Rattle.swing_walk.specs.declared.partners.BySize.{BySize}
 use Rattle.swing_walk.specs.declared.positions.Next.{Next}
@@ -109,14 +109,14 @@ both_kinds size (e ∷ entries) =
 -- what is read at a size, as long as fewer sets were passed than a number of 16 bits holds
 module _ (by : BySize) (size : ℕ) (route : Route) (position : Position) where
   pub record Reads : Type 0 where
-    pub room : get_or by.fewer size 0 + tally_of_size size (size_side 0 by.passed) ≤ length route.rising
-    pub left : get_or by.fewer size 0 + tally_of_size size (size_side 0 by.passed) + at_least size (drop position.up route.rising) ≡ length route.rising
-    pub gone : tally_of_size size (size_side 1 by.passed) ≡ at_least size (drop position.rest route.falling)
+    pub room : get_or by.fewer size 0 + tally_of_size size (sizes_at 0 by.passed) ≤ length route.rising
+    pub left : get_or by.fewer size 0 + tally_of_size size (sizes_at 0 by.passed) + at_least size (drop position.up route.rising) ≡ length route.rising
+    pub gone : tally_of_size size (sizes_at 1 by.passed) ≡ at_least size (drop position.rest route.falling)
 
   pub reads : CountsBySize by route position → size ≤ SIZES → position.up + length route.falling < position.rest + ROOM → position.rest ≤ length route.falling → Reads
   reads counts bound early within =
       let test : Entry → Bool = λ e. nat_le size (size_of e) in
-      let left : get_or by.fewer size 0 + tally_of_size size (size_side 0 by.passed) + at_least size (drop position.up route.rising) ≡ length route.rising =
+      let left : get_or by.fewer size 0 + tally_of_size size (sizes_at 0 by.passed) + at_least size (drop position.up route.rising) ≡ length route.rising =
       omega (arith, counts.fewer size bound, counts.risen size (omega arith), both_kinds size route.rising, sum_by-take-drop (λ (e : Entry). cond (nat_le size (size_of e)) 1 0) route.rising position.up, count_by-le-length test (take position.up route.rising), length-take position.up route.rising) in
       record {
         room = omega (arith, left);
@@ -126,7 +126,7 @@ module _ (by : BySize) (size : ℕ) (route : Route) (position : Position) where
 
 -- which are the partners of a set
 pub partners-read : (falls : Bool) (by : BySize) (next : Next) (route : Route) (position : Position) (lane left gone : ℕ) → Reads by lane route position → lane ≡ min (route.least_size - count_ones (cond falls next.high.mask next.low.mask)) SIZES →
-    left ≡ length route.rising - get_or by.fewer lane 0 - tally_of_size lane (size_side 0 by.passed) → gone ≡ tally_of_size lane (size_side 1 by.passed) → cond falls left gone ≡ partners_next falls next route position
+    left ≡ length route.rising - get_or by.fewer lane 0 - tally_of_size lane (sizes_at 0 by.passed) → gone ≡ tally_of_size lane (sizes_at 1 by.passed) → cond falls left gone ≡ partners_next falls next route position
 partners-read true by next route position lane left gone r is is_left is_gone =
     omega (arith, is_left, r.left, partners-lacking route.least_size next.high.mask lane (drop position.up route.rising) (All-drop (λ (e : Entry). e.mask < 2 ^ SLOTS) position.up route.rising route.rising_half.slots) is)
 partners-read false by next route position lane left gone r is is_left is_gone =
@@ -136,10 +136,10 @@ partners-read false by next route position lane left gone r is is_left is_gone =
 pub record Counted (falls : Bool) (next : Next) (old new : BySize) (mask : ℕ) : Type 0 where
   pub is_mask : mask ≡ cond falls next.high.mask next.low.mask
   pub fewer : new.fewer ≡ old.fewer
-  pub rising : (size : ℕ) → size < LANES → tally_of_size size (size_side 0 new.passed)
-      ≡ cond falls (tally_of_size size (size_side 0 old.passed)) ((tally_of_size size (size_side 0 old.passed) + one_at size mask) % 2 ^ 16)
-  pub falling : (size : ℕ) → size < LANES → tally_of_size size (size_side 1 new.passed)
-      ≡ cond falls ((tally_of_size size (size_side 1 old.passed) + one_at size mask) % 2 ^ 16) (tally_of_size size (size_side 1 old.passed))
+  pub rising : (size : ℕ) → size < LANES → tally_of_size size (sizes_at 0 new.passed)
+      ≡ cond falls (tally_of_size size (sizes_at 0 old.passed)) ((tally_of_size size (sizes_at 0 old.passed) + one_at size mask) % 2 ^ 16)
+  pub falling : (size : ℕ) → size < LANES → tally_of_size size (sizes_at 1 new.passed)
+      ≡ cond falls ((tally_of_size size (sizes_at 1 old.passed) + one_at size mask) % 2 ^ 16) (tally_of_size size (sizes_at 1 old.passed))
 
 pub passed : (falls : Bool) (next : Next) (route : Route) (position : Position) (old new : BySize) (mask : ℕ) → CountsBySize old route position → IsPassed falls next route position → position.rest ≤ length route.falling → Counted falls next old new mask →
     CountsBySize new route (position_after falls position)

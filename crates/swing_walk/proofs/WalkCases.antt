@@ -3,7 +3,7 @@ use Rattle.std.proofs.Common.{◌≡◌, ℕ, List, [], ◌∷◌, refl, ap, ari
 use Rattle.std.proofs.lemmas.List.Sorted.{IsNonDecreasingBy-short}
 use Rattle.half_sums.specs.declared.entry.Entry.{Entry}
 use Rattle.half_sums.specs.Entries.{IsHalf, entries_of, three_chairs}
-use Rattle.swing_walk.specs.Sides.{size_side}
+use Rattle.swing_walk.specs.Sides.{sizes_at}
 use Rattle.swing_walk.specs.Sizes.{CountsBySize, tally_of_size}
 use Rattle.swing_walk.specs.Walks.{HasCredited, IsBetween, IsNext, IsPassed}
 use Rattle.swing_walk.specs.declared.partners.BySize.{BySize}
@@ -38,7 +38,7 @@ none_passed = ((λ h. omega (arith, h.up_in)), (λ h. omega (arith, h.rest_in)))
 
 -- a rising entry that reaches the quota with a falling one that is left is not passed, nor a falling one that falls short
 reaching_passed : IsBetween (over 10 one_chair one_chair) (at 1 1) → ⊥
-reaching_passed h = omega (arith, h.apart 0 0 (omega arith) (omega arith))
+reaching_passed h = omega (arith, h.short 0 0 (omega arith) (omega arith))
 
 short_passed : IsBetween (over 11 one_chair one_chair) (at 0 0) → ⊥
 short_passed h = omega (arith, h.reached 0 0 (omega arith) (omega arith) (omega arith) (omega arith))
@@ -50,9 +50,9 @@ not_credited = ((λ h. omega (arith, h.rising_total)), (λ h. omega (arith, h.fa
 
 -- at its own mask: here at the mask of no chair
 abbrev without_chair : MaskTally
-without_chair = record { low = 1 ∷ []; high = 1 ∷ []; even = refl }
+without_chair = record { low = 1 ∷ []; high = 1 ∷ []; same_sum = refl }
 
-marked_elsewhere : (HasCredited (over 10 one_chair one_chair) (at 1 1) (without_chair ∷ []) → ⊥) × (HasCredited (over 10 one_chair one_chair) (at 0 0) (record { low = []; high = []; even = refl } ∷ without_chair ∷ []) → ⊥)
+marked_elsewhere : (HasCredited (over 10 one_chair one_chair) (at 1 1) (without_chair ∷ []) → ⊥) × (HasCredited (over 10 one_chair one_chair) (at 0 0) (record { low = []; high = []; same_sum = refl } ∷ without_chair ∷ []) → ⊥)
 unfolding lib.Count.ones
 marked_elsewhere = ((λ h. omega (arith, h.rising_marked 0)), (λ h. omega (arith, h.falling_marked 0)))
 
@@ -62,11 +62,11 @@ module _ (by : BySize) (three : IsHalf (entries_of three_chairs)) (counts : Coun
   unfolding lib.Count.ones
   fewer_sets = (counts.fewer 1 (omega arith), counts.fewer 2 (omega arith))
 
-  all_risen : tally_of_size 0 (size_side 0 by.passed) ≡ 8
+  all_risen : tally_of_size 0 (sizes_at 0 by.passed) ≡ 8
   unfolding lib.Count.ones
   all_risen = counts.risen 0 (omega arith)
 
-  none_fallen : tally_of_size 0 (size_side 1 by.passed) ≡ 0
+  none_fallen : tally_of_size 0 (sizes_at 1 by.passed) ≡ 0
   unfolding lib.Count.ones
   none_fallen = counts.fallen 0 (omega arith)
 

@@ -6,7 +6,7 @@ use Rattle.council_core.specs.Sheets.{Chair}
 use Rattle.half_sums.specs.declared.entry.Entry.{Entry}
 use Rattle.half_sums.specs.Entries.{AreSubsets, three_chairs}
 use Rattle.swing_walk.specs.Laws.{AreHalf, CountsMeet, equal_chairs}
-use Rattle.swing_walk.specs.Pairs.{large_pairs, large_with, swings_of}
+use Rattle.swing_walk.specs.Pairs.{winning_pairs, winning_with, swings_of}
 use Rattle.swing_walk.proofs.BoardSets.{two_halves_law}
 
 ones_slots : All (λ c. c.0 < 16) equal_chairs
@@ -43,8 +43,8 @@ three_meet quota least_size left right are_left are_right =
 
 -- a place without a chair has no swings: the first of the right half, and the one after the three chairs of the left
 pub vacant_places : (quota least_size : ℕ) (left right : List Entry) → AreSubsets three_chairs left → AreSubsets [] right
-    → (swings_of (large_pairs quota least_size left right) (large_with quota least_size 16 left right) ≡ 0)
-    × (swings_of (large_pairs quota least_size left right) (large_with quota least_size 3 left right) ≡ 0)
+    → (swings_of (winning_pairs quota least_size left right) (winning_with quota least_size 16 left right) ≡ 0)
+    × (swings_of (winning_pairs quota least_size left right) (winning_with quota least_size 3 left right) ≡ 0)
 vacant_places quota least_size left right are_left are_right =
     let meet = three_meet quota least_size left right are_left are_right in
     (meet.vacant 16 refl, meet.vacant 3 refl)

@@ -6,7 +6,7 @@ use Rattle.council_core.specs.Sheets.{Chair}
 use Rattle.council_core.specs.Coalitions.{Rule, subsets, has_chair, omega_of, omega_with, eta_of, IsRule, threshold_rule}
 use Rattle.half_sums.specs.declared.entry.Entry.{Entry}
 use Rattle.half_sums.specs.Entries.{AreSubsets, entries_of, three_chairs}
-use Rattle.swing_walk.specs.Pairs.{large_pairs, large_with, swings_of}
+use Rattle.swing_walk.specs.Pairs.{winning_pairs, winning_with, swings_of}
 use Rattle.half_sums.specs.declared.groups.TheConstants.{SLOTS}
 
 -- the number of swings of a chair from the counts of winning coalitions, for any rule (Felsenthal
@@ -31,20 +31,20 @@ pub three_eta : (eta_of (threshold_rule 51 0) (0, 50) three_chairs ≡ 3)
     × (eta_of (threshold_rule 51 0) (2, 1) three_chairs ≡ 1)
 three_eta = (refl, refl, refl)
 
-pub three_pairs : (large_pairs 51 0 (entries_of three_chairs) (entries_of []) ≡ 3)
-    × (large_with 51 0 0 (entries_of three_chairs) (entries_of []) ≡ 3)
-    × (large_with 51 0 1 (entries_of three_chairs) (entries_of []) ≡ 2)
-    × (large_with 51 0 16 (entries_of three_chairs) (entries_of []) ≡ 0)
+pub three_pairs : (winning_pairs 51 0 (entries_of three_chairs) (entries_of []) ≡ 3)
+    × (winning_with 51 0 0 (entries_of three_chairs) (entries_of []) ≡ 3)
+    × (winning_with 51 0 1 (entries_of three_chairs) (entries_of []) ≡ 2)
+    × (winning_with 51 0 16 (entries_of three_chairs) (entries_of []) ≡ 0)
 unfolding lib.Count.ones
 three_pairs = (refl, refl, refl, refl)
 
 -- worked example: the same chairs, quota 50 and least size 2
-pub three_large : (omega_of (threshold_rule 50 2) three_chairs ≡ 4)
+pub three_with_size : (omega_of (threshold_rule 50 2) three_chairs ≡ 4)
     × (eta_of (threshold_rule 50 2) (0, 50) three_chairs ≡ 2)
     × (eta_of (threshold_rule 50 2) (2, 1) three_chairs ≡ 2)
-    × (large_pairs 50 2 (entries_of three_chairs) (entries_of []) ≡ 4)
+    × (winning_pairs 50 2 (entries_of three_chairs) (entries_of []) ≡ 4)
 unfolding lib.Count.ones
-three_large = (refl, refl, refl, refl)
+three_with_size = (refl, refl, refl, refl)
 
 -- worked example: sixteen chairs of one vote each
 abbrev pub equal_chairs : List Chair
@@ -70,9 +70,10 @@ pub record AreHalf (chairs : List Chair) : Type 0 where
 
 -- the counts of the pairs are those of the coalitions of the board
 pub record PairsAreCoalitions (quota least_size : ℕ) (left right : List Chair) (from to : List Entry) : Type 0 where
-  pub winning : large_pairs quota least_size from to ≡ omega_of (threshold_rule quota least_size) (board_of left right)
+  pub winning : winning_pairs quota least_size from to
+      ≡ omega_of (threshold_rule quota least_size) (board_of left right)
   pub with_chair : (place : ℕ)
-      → large_with quota least_size place from to
+      → winning_with quota least_size place from to
       ≡ omega_with (threshold_rule quota least_size) place (board_of left right)
 
 abbrev pub PairLaw : Type 0
@@ -95,15 +96,15 @@ BoundLaw = (quota least_size place : ℕ) (chairs : List Chair)
 -- the counts of two halves meet the requirements of `swings`, and its results are the swings of
 -- each chair, 0 at a place without a chair
 pub record CountsMeet (quota least_size : ℕ) (left right : List Chair) (from to : List Entry) : Type 0 where
-  pub bound : large_pairs quota least_size from to ≤ 2 ^ 32
-  pub within : (place : ℕ) → large_with quota least_size place from to ≤ large_pairs quota least_size from to
-  pub half : (place : ℕ) → 0 < large_with quota least_size place from to
-      → large_pairs quota least_size from to ≤ 2 * large_with quota least_size place from to
+  pub bound : winning_pairs quota least_size from to ≤ 2 ^ 32
+  pub within : (place : ℕ) → winning_with quota least_size place from to ≤ winning_pairs quota least_size from to
+  pub half : (place : ℕ) → 0 < winning_with quota least_size place from to
+      → winning_pairs quota least_size from to ≤ 2 * winning_with quota least_size place from to
   pub swings : (before after : List Chair) (chair : Chair) → board_of left right ≡ before ++ chair ∷ after
-      → swings_of (large_pairs quota least_size from to) (large_with quota least_size chair.0 from to)
+      → swings_of (winning_pairs quota least_size from to) (winning_with quota least_size chair.0 from to)
       ≡ eta_of (threshold_rule quota least_size) chair (board_of left right)
   pub vacant : (place : ℕ) → has_chair place (board_of left right) ≡ false
-      → swings_of (large_pairs quota least_size from to) (large_with quota least_size place from to) ≡ 0
+      → swings_of (winning_pairs quota least_size from to) (winning_with quota least_size place from to) ≡ 0
 
 abbrev pub TwoHalvesLaw : Type 0
 TwoHalvesLaw = (quota least_size : ℕ) (left right : List Chair) (from to : List Entry)

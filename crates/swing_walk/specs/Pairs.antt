@@ -27,22 +27,22 @@ with_slot slot test l r = test l r && has_slot slot l
 abbrev pub has_place : ℕ → Entry → Entry → Bool
 has_place place l r = if nat_lt place SLOTS then has_slot place l else has_slot (place - SLOTS) r
 
--- whether a pair has enough chairs
-abbrev pub is_large : ℕ → Entry → Entry → Bool
-is_large least_size l r = nat_le least_size (size_of l + size_of r)
+-- whether a pair has at least this many chairs
+abbrev pub has_size : ℕ → Entry → Entry → Bool
+has_size least_size l r = nat_le least_size (size_of l + size_of r)
 
--- whether a pair has enough votes and enough chairs
-abbrev pub is_enough : ℕ → ℕ → Entry → Entry → Bool
-is_enough quota least_size l r = reaches quota l r && is_large least_size l r
+-- whether a pair wins: it reaches the quota and has the least size
+abbrev pub wins_as_pair : ℕ → ℕ → Entry → Entry → Bool
+wins_as_pair quota least_size l r = reaches quota l r && has_size least_size l r
 
--- the number of pairs that reach the quota and the least size
-abbrev pub large_pairs : ℕ → ℕ → List Entry → List Entry → ℕ
-large_pairs quota least_size left right = pairs_where (is_enough quota least_size) left right
+-- the number of winning pairs
+abbrev pub winning_pairs : ℕ → ℕ → List Entry → List Entry → ℕ
+winning_pairs quota least_size left right = pairs_where (wins_as_pair quota least_size) left right
 
--- the number of pairs that reach both and have the chair at a place
-abbrev pub large_with : ℕ → ℕ → ℕ → List Entry → List Entry → ℕ
-large_with quota least_size place left right = pairs_where
-    (λ l r. is_enough quota least_size l r && has_place place l r) left right
+-- the number of winning pairs that have the chair at a place
+abbrev pub winning_with : ℕ → ℕ → ℕ → List Entry → List Entry → ℕ
+winning_with quota least_size place left right = pairs_where
+    (λ l r. wins_as_pair quota least_size l r && has_place place l r) left right
 
 -- the swings of a chair (Banzhaf 1965): 2 * with_chair - winning, from the number of winning sets
 -- and the number of those that have the chair

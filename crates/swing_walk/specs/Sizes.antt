@@ -7,7 +7,7 @@ use Rattle.half_sums.specs.Groups.{size_of, fewer_than}
 use Rattle.half_sums.specs.declared.groups.TheConstants.{SIZES}
 use Rattle.swing_walk.specs.declared.sizes.SizeTally.{SizeTally}
 use Rattle.swing_walk.specs.declared.sizes.TheConstants.{LANES}
-use Rattle.swing_walk.specs.Sides.{size_side}
+use Rattle.swing_walk.specs.Sides.{sizes_at}
 use Rattle.swing_walk.specs.declared.partners.BySize.{BySize}
 use Rattle.swing_walk.specs.declared.positions.Next.{Next}
 use Rattle.swing_walk.specs.declared.positions.Position.{Position}
@@ -42,5 +42,5 @@ partners_next false next route position = partners_of route.least_size next.low.
 -- by their sizes, all rising sets
 pub record CountsBySize (by : BySize) (route : Route) (position : Position) : Type 0 where
   pub fewer : (size : ℕ) → size ≤ SIZES → slice_index_or by.fewer size 0 ≡ fewer_than size route.rising
-  pub risen : IsSizeTally (take position.up route.rising) (size_side 0 by.passed)
-  pub fallen : IsSizeTally (drop position.rest route.falling) (size_side 1 by.passed)
+  pub risen : IsSizeTally (take position.up route.rising) (sizes_at 0 by.passed)
+  pub fallen : IsSizeTally (drop position.rest route.falling) (sizes_at 1 by.passed)

@@ -2,18 +2,18 @@
 use Rattle.std.specs.Prelude.{ℕ, ◌≡◌, ◌+◌, ◌-◌, ◌<◌, ◌≤◌, List, length, take, drop, cond, Bool, true, false}
 use Rattle.half_sums.specs.declared.entry.Entry.{Entry}
 use Rattle.half_sums.specs.Entries.{entry_at}
-use Rattle.swing_walk.specs.Pairs.{pairs_where, is_enough, with_slot}
+use Rattle.swing_walk.specs.Pairs.{pairs_where, wins_as_pair, with_slot}
 use Rattle.swing_walk.specs.Tallies.{slot_amount, tally_total}
-use Rattle.swing_walk.specs.Sides.{side}
+use Rattle.swing_walk.specs.Sides.{tally_at}
 use Rattle.swing_walk.specs.declared.positions.Route.{Route}
 use Rattle.swing_walk.specs.declared.positions.Position.{Position}
 use Rattle.swing_walk.specs.declared.positions.Next.{Next}
 use Rattle.swing_walk.specs.declared.tally.MaskTally.{MaskTally}
 use Rattle.swing_walk.specs.declared.walking.ChainPositions.{ChainPositions}
 
--- whether a pair of a route has enough votes and enough chairs
-abbrev pub enough : Route → Entry → Entry → Bool
-enough route = is_enough route.quota route.least_size
+-- whether a pair wins by the quota and the least size of a route
+abbrev pub wins_on : Route → Entry → Entry → Bool
+wins_on route = wins_as_pair route.quota route.least_size
 
 -- the route with its lists exchanged, which the chain from the other end walks
 abbrev pub turned_route : Route → Route
@@ -36,7 +36,7 @@ votes_at route k m = (entry_at route.rising k).sum + (entry_at route.falling m).
 pub record IsBetween (route : Route) (position : Position) : Type 0 where
   pub up_in : position.up ≤ length route.rising
   pub rest_in : position.rest ≤ length route.falling
-  pub apart : (k m : ℕ) → k < position.up → m < position.rest → votes_at route k m < route.quota
+  pub short : (k m : ℕ) → k < position.up → m < position.rest → votes_at route k m < route.quota
   pub reached : (k m : ℕ) → position.up ≤ k → k < length route.rising → position.rest ≤ m
       → m < length route.falling → route.quota ≤ votes_at route k m
 
@@ -53,18 +53,17 @@ IsPassed false next route position =
 abbrev pub IsNext : Next → Route → Position → Type 0
 IsNext next = IsPassed next.falls next
 
--- the first tally has, at each passed rising entry, the number of falling entries that are enough
--- with it, and the second tally has, at each passed falling entry, the number of such rising
--- entries
+-- the first tally has, at each passed rising entry, the number of falling entries that win with it,
+-- and the second tally has, at each passed falling entry, the number of such rising entries
 pub record HasCredited (route : Route) (position : Position) (tallies : List MaskTally) : Type 0 where
-  pub rising_total : tally_total (side 0 tallies)
-      ≡ pairs_where (enough route) (take position.up route.rising) route.falling
-  pub rising_marked : (slot : ℕ) → slot_amount slot (side 0 tallies)
-      ≡ pairs_where (with_slot slot (enough route)) (take position.up route.rising) route.falling
-  pub falling_total : tally_total (side 1 tallies)
-      ≡ pairs_where (enough route) (drop position.rest route.falling) route.rising
-  pub falling_marked : (slot : ℕ) → slot_amount slot (side 1 tallies)
-      ≡ pairs_where (with_slot slot (enough route)) (drop position.rest route.falling) route.rising
+  pub rising_total : tally_total (tally_at 0 tallies)
+      ≡ pairs_where (wins_on route) (take position.up route.rising) route.falling
+  pub rising_marked : (slot : ℕ) → slot_amount slot (tally_at 0 tallies)
+      ≡ pairs_where (with_slot slot (wins_on route)) (take position.up route.rising) route.falling
+  pub falling_total : tally_total (tally_at 1 tallies)
+      ≡ pairs_where (wins_on route) (drop position.rest route.falling) route.rising
+  pub falling_marked : (slot : ℕ) → slot_amount slot (tally_at 1 tallies)
+      ≡ pairs_where (with_slot slot (wins_on route)) (drop position.rest route.falling) route.rising
 
 -- what a counter of partners has counted of a route, once the entries before a position are passed
 abbrev pub PartnerCounts : Type 1
@@ -94,7 +93,7 @@ abbrev pub HasPassed : ℕ → Position → List Entry → Type 0
 HasPassed passed position falling = position.up + length falling ≡ passed + position.rest
 
 -- two chains from both ends, after the same number of steps
-pub record StandApart (front_counts back_counts : PartnerCounts) (route : Route) (ends : ChainPositions)
+pub record ChainsStand (front_counts back_counts : PartnerCounts) (route : Route) (ends : ChainPositions)
     (front back : List MaskTally) : Type 0 where
   pub front_passed : HasPassed ends.walked ends.front route.falling
   pub back_passed : HasPassed ends.walked ends.back route.rising

@@ -1,6 +1,6 @@
 //! The counts of the winning pairs of two lists, and the swings that follow from them.
 ghost use Rattle.std.specs.Prelude.{◌≡◌, ℕ, ◌+◌, ◌*◌, ◌^◌, ◌<◌, ◌≤◌, slice_index};
-ghost use Rattle.swing_walk.specs.Pairs.{large_pairs, large_with, swings_of};
+ghost use Rattle.swing_walk.specs.Pairs.{winning_pairs, winning_with, swings_of};
 ghost use Rattle.swing_walk.specs.Tallies.{slot_amount, tally_total};
 
 use crate::partners::{BySize, OfAnySize};
@@ -35,18 +35,18 @@ pub struct Counts {
 /// assert_eq!(rt; swings(&counts)[0], 3);
 /// ```
 pub fn count(left: &HalfSums, right: &HalfSums, quota: u64, least_size: u8) -> Counts
-    ensures winning { result.winning ≡ large_pairs quota least_size left.now right.now }
+    ensures winning { result.winning ≡ winning_pairs quota least_size left.now right.now }
     ensures with_chair { (place : ℕ) → place < CHAIRS
-        → slice_index result.with_chair place ≡ large_with quota least_size place left.now right.now }
+        → slice_index result.with_chair place ≡ winning_with quota least_size place left.now right.now }
 {
     count_lists(&left.ascending(), &right.ascending(), quota, least_size)
 }
 
 /// Like `count`, for two borrowed lists.
 pub fn count_lists(left: &SumList, right: &SumList, quota: u64, least_size: u8) -> Counts
-    ensures winning { result.winning ≡ large_pairs quota least_size left.now right.now }
+    ensures winning { result.winning ≡ winning_pairs quota least_size left.now right.now }
     ensures with_chair { (place : ℕ) → place < CHAIRS
-        → slice_index result.with_chair place ≡ large_with quota least_size place left.now right.now }
+        → slice_index result.with_chair place ≡ winning_with quota least_size place left.now right.now }
 {
     let route = Route {
         rising: left.copy(),

@@ -5,7 +5,7 @@ ghost use Rattle.swing_walk.specs.Sizes.{tally_of_size, one_at};
 
 use half_sums::{SIZES, SLOTS, part, size};
 
-// More than the number of sizes, because eight numbers are added at once.
+// The length of a tally: the 17 sizes, rounded up, because eight numbers are added at once.
 pub(crate) const LANES: usize = 24;
 
 // A 1 for each of the 17 sizes, followed by zeros. The `LANES` items from index `SLOTS - n` on

@@ -20,7 +20,7 @@ type ByteTable = [u64; BYTES as usize];
 pub(crate) struct MaskTally {
     pub(crate) low: ByteTable,
     pub(crate) high: ByteTable,
-    ghost even: { sum_by (λ n. n) high ≡ sum_by (λ n. n) low },
+    ghost same_sum: { sum_by (λ n. n) high ≡ sum_by (λ n. n) low },
 }
 
 impl MaskTally {

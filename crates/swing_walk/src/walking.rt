@@ -12,10 +12,10 @@ ghost use Rattle.std.specs.Prelude.{slice_index, slice_index_or};
 ghost use Rattle.std.specs.List.{All};
 ghost use Rattle.council_core.specs.declared.limits.TheConstants.{MAX_TOTAL};
 ghost use Rattle.half_sums.specs.Entries.{zero_entry};
-ghost use Rattle.swing_walk.specs.Pairs.{large_pairs, large_with};
-ghost use Rattle.swing_walk.specs.Walks.{enough, turned_route, IsNext, StandsAt, StandApart, HasPassed};
+ghost use Rattle.swing_walk.specs.Pairs.{winning_pairs, winning_with};
+ghost use Rattle.swing_walk.specs.Walks.{wins_on, turned_route, IsNext, StandsAt, ChainsStand, HasPassed};
 ghost use Rattle.swing_walk.specs.Walks.{at_start, at_step};
-ghost use Rattle.swing_walk.specs.Sides.{side};
+ghost use Rattle.swing_walk.specs.Sides.{tally_at};
 ghost use Rattle.swing_walk.specs.Tallies.{CreditsEach};
 
 use crate::pairs::{Counts, counts_of};
@@ -62,9 +62,9 @@ pub(crate) fn walk<P: Partners>(route: &Route, front: P, back: P) -> Counts
 
     // The counts.
     ensures winning { result.winning
-        ≡ large_pairs route.now.quota route.now.least_size route.now.rising route.now.falling }
+        ≡ winning_pairs route.now.quota route.now.least_size route.now.rising route.now.falling }
     ensures with_chair { (place : ℕ) → place < CHAIRS → slice_index result.with_chair place
-        ≡ large_with route.now.quota route.now.least_size place route.now.rising route.now.falling }
+        ≡ winning_with route.now.quota route.now.least_size place route.now.rising route.now.falling }
 {
     let mut chains = Chains {
         front: Chain {
@@ -94,7 +94,7 @@ fn walk_within<P: Partners>(route: &Route, chains: &mut Chains<P>) -> ChainPosit
     requires back { StandsAt (P.counts chains.old.back.partners) (turned_route route.now)
         (at_start (turned_route route.now)) chains.old.back.tallies }
     ensures within { 2 * result.walked ≤ length route.now.rising + length route.now.falling }
-    ensures apart { StandApart (P.counts chains.new.front.partners) (P.counts chains.new.back.partners) route.now
+    ensures stand { ChainsStand (P.counts chains.new.front.partners) (P.counts chains.new.back.partners) route.now
         result chains.new.front.tallies chains.new.back.tallies }
 {
     let (own, other) = (route.copy(), route.turned());
@@ -130,14 +130,14 @@ fn steps_within(route: &Route) -> usize
 #[inline(never)]
 fn walk_on<P: Partners>(ends: ChainPositions, route: &Route, chains: &mut Chains<P>)
     requires within { 2 * ends.walked ≤ length route.now.rising + length route.now.falling }
-    requires apart { StandApart (P.counts chains.old.front.partners) (P.counts chains.old.back.partners) route.now
+    requires stand { ChainsStand (P.counts chains.old.front.partners) (P.counts chains.old.back.partners) route.now
         ends chains.old.front.tallies chains.old.back.tallies }
 
     // The pairs that both chains together have credited.
-    ensures lefts { CreditsEach (enough route.now) route.now.rising route.now.falling
-        (side 0 chains.new.front.tallies) (side 1 chains.new.back.tallies) }
-    ensures rights { CreditsEach (enough route.now) route.now.falling route.now.rising
-        (side 0 chains.new.back.tallies) (side 1 chains.new.front.tallies) }
+    ensures lefts { CreditsEach (wins_on route.now) route.now.rising route.now.falling
+        (tally_at 0 chains.new.front.tallies) (tally_at 1 chains.new.back.tallies) }
+    ensures rights { CreditsEach (wins_on route.now) route.now.falling route.now.rising
+        (tally_at 0 chains.new.back.tallies) (tally_at 1 chains.new.front.tallies) }
 {
     let other = route.turned();
     let steps = route.rising.len() + route.falling.len();

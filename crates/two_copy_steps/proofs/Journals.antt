@@ -5,10 +5,11 @@ use Rattle.two_copy_steps.proofs.Names.{Note, Ok, Opening, refl, Refusal, Result
 use Rattle.two_copy_steps.proofs.Names.{true≢false, verdict_of, ⊤, ◌++◌, ◌∷◌, ◌≡◌, ◌≢◌, ◌≤◌}
 use Rattle.std.proofs.Common.{◌&&◌, is_ok, IsTrue}
 use Rattle.std.proofs.lemmas.List.Elements.{All-push}
+use Rattle.std.specs.Result.{result_and}
 use Rattle.council_core.specs.Laws.{SetsInRange}
 use Rattle.council_core.specs.declared.refusals.Refusal.TheVariants.{JournalFull}
 use Rattle.council_core.specs.Rolls.{Roll, opening_roll, fold_from, next_roll, step, all_accepted}
-use Rattle.council_core.specs.Ledgers.{roll_of, room_of, verdict}
+use Rattle.council_core.specs.Ledgers.{roll_of, room_of}
 use Rattle.two_copy_steps.specs.Laws.{SubmitsInRange}
 use Rattle.two_copy_steps.proofs.Outcomes.{Outcome, outcome, no_auxiliary, skipped, accepted, refused, current, began, wrote, stepped}
 
@@ -30,7 +31,7 @@ accepted_push r [] command h g = both (is_ok (step r command)) true g refl
 accepted_push r (c ∷ cs) command h g =
     and_on (is_ok (step r c)) (all_accepted (next_roll r c) cs) (all_accepted (next_roll r c) (cs ++ command ∷ [])) (λ q. accepted_push (next_roll r c) cs command q g) h
 
-step_ok : (v : Result Roll Refusal) (room : Result ⊤ Refusal) → verdict v room ≡ Ok tt → IsTrue (is_ok v) × (room ≡ Ok tt)
+step_ok : (v : Result Roll Refusal) (room : Result ⊤ Refusal) → result_and v room ≡ Ok tt → IsTrue (is_ok v) × (room ≡ Ok tt)
 step_ok (Ok r) room e = (refl, e)
 step_ok (Err refusal) room e = absurd (true≢false (sym (ap is_ok e)))
 

@@ -6,7 +6,7 @@ use Rattle.two_copy_steps.proofs.Names.{get_or-set_other, HoldsCopy, Idle, is_id
 use Rattle.two_copy_steps.proofs.Names.{Leaving, length, length-append, List, machine_and_note, MachineState, Moved}
 use Rattle.two_copy_steps.proofs.Names.{ne_eqb, None, Note, Ok, Opening, Option, other_side, Phase, phase_action}
 use Rattle.two_copy_steps.proofs.Names.{phase_note, pin, Publish, published_by, Reader, reader_transition, Reading}
-use Rattle.two_copy_steps.proofs.Names.{reading, record_at, refl, Refusal, replied_at, replies_of, Reply, response_to}
+use Rattle.two_copy_steps.proofs.Names.{reading, record_at, refl, Refusal, replied_at, replies_of, Reply}
 use Rattle.two_copy_steps.proofs.Names.{Result, Seeing, seen_writing, Sequential, sequential_step, SequentialRun, set}
 use Rattle.two_copy_steps.proofs.Names.{set-get_or, sheet, ShowsSheet, Skipped, slice_get, Some, Stage, stage_note}
 use Rattle.two_copy_steps.proofs.Names.{stage_with_words, Stands, state_after, state_of, Submit, subst, suc, Swapping}

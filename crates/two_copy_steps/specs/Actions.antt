@@ -1,6 +1,6 @@
 -- The steps of a reader and of the writer as two tables, `stage_action` and `phase_action`: the one
--- word that a step loads or stores, and the actor's view after it. This is this project's own
--- two-copy machine, with one pin word for each reader.
+-- word that a step loads or stores, and the actor's view after it. The machine is this project's
+-- own: two copies, and one pin for each reader.
 use Rattle.std.specs.Prelude.{ℕ, zero, suc, ◌+◌, ◌-◌, Bool, true, false, List, [], ◌∷◌, ◌++◌}
 use Rattle.std.specs.Prelude.{length, slice_index, slice_set, replicate, if◌then◌else◌, ◌&&◌, ◌==◌}
 use Rattle.council_core.specs.declared.commands.Command.{Command}
@@ -103,17 +103,13 @@ swapped_writing w = record {
 -- once all words are loaded, they are added to the record
 abbrev pub readings_with : Stage → List (List ℕ) → List (List ℕ)
 readings_with (Leaving side words) readings = readings ++ words ∷ []
-readings_with AtRest readings = readings
-readings_with Arrived readings = readings
-readings_with (Reading side words) readings = readings
+readings_with stage readings = readings
 
 -- the record after a step from one stage to another: a reading is added at the load of its last
 -- word
 abbrev pub readings_after : Stage → Stage → List (List ℕ) → List (List ℕ)
 readings_after (Reading side words) after readings = readings_with after readings
-readings_after AtRest after readings = readings
-readings_after Arrived after readings = readings
-readings_after (Leaving side words) after readings = readings
+readings_after before after readings = readings
 
 -- the step of the reader at r, with its record
 abbrev pub reader_action : ℕ → ReaderView → Action ReaderView
@@ -128,9 +124,7 @@ reader_action r v =
 -- the cuts after a step from a phase: a cut is added when side is stored
 abbrev pub cuts_past : Phase → List Command → List ℕ → List ℕ
 cuts_past Swapping staged cuts = cuts ++ length staged ∷ []
-cuts_past Idle staged cuts = cuts
-cuts_past Seeing staged cuts = cuts
-cuts_past (Filling k) staged cuts = cuts
+cuts_past phase staged cuts = cuts
 
 module _ (sheet : List Command → List ℕ) where
   -- the table of the writer, by its phase: it changes nothing, loads a pin, stores a word, stores

@@ -1,12 +1,12 @@
 -- Auxiliary variables of the machine: the cuts of the writer and the records of the readers. The
 -- machine does not store them, and no step reads them.
-use Rattle.std.specs.Prelude.{◌≡◌, ℕ, zero, suc, false, List, [], ◌∷◌, length, replicate}
+use Rattle.std.specs.Prelude.{◌≡◌, ℕ, suc, false, List, [], ◌∷◌, length, replicate}
 use Rattle.std.specs.Prelude.{slice_index, slice_index_or, slice_get, slice_set, Option, None, Some}
 use Rattle.council_core.specs.declared.commands.Command.{Command}
 use Rattle.council_core.specs.Rolls.{Opening}
 use Rattle.council_core.specs.Ledgers.{Ledger}
 use Rattle.two_copy_steps.specs.declared.events.Event.{Event}
-use Rattle.two_copy_steps.specs.declared.events.Event.TheVariants.{Submit, Publish, Writer, Reader}
+use Rattle.two_copy_steps.specs.declared.events.Event.TheVariants.{Writer, Reader}
 use Rattle.two_copy_steps.specs.declared.views.ReaderView.{ReaderView}
 use Rattle.two_copy_steps.specs.declared.views.Writing.{Writing}
 use Rattle.two_copy_steps.specs.declared.views.Stage.{Stage}
@@ -40,11 +40,9 @@ auxiliary_reader_step m a r (Some stage) =
 
 -- the cuts and the records after an event; `m` is the machine before the event
 abbrev pub auxiliary_step : MachineState → Auxiliary → Event → Auxiliary
-auxiliary_step m a (Submit command) = a
-auxiliary_step m a Publish = a
 auxiliary_step m a Writer = record a { cuts = cuts_past m.writer.phase m.writer.staged a.cuts }
-auxiliary_step m a (Reader zero) = a
 auxiliary_step m a (Reader (suc r)) = auxiliary_reader_step m a r (slice_get m.readers r)
+auxiliary_step m a event = a
 
 -- the cuts and the records after a list of events
 abbrev pub auxiliary_steps : MachineState → Auxiliary → List Event → Auxiliary

@@ -10,26 +10,22 @@ use Rattle.two_copy_steps.specs.declared.events.Event.{Event}
 use Rattle.two_copy_steps.specs.declared.events.Event.TheVariants.{Submit, Publish, Writer, Reader}
 use Rattle.two_copy_steps.specs.declared.events.Note.{Note}
 use Rattle.two_copy_steps.specs.declared.events.Note.TheVariants.{Accepted, Refused, Began, Moved, Published, Busy}
-use Rattle.two_copy_steps.specs.declared.events.Note.TheVariants.{Read, Skipped}
+use Rattle.two_copy_steps.specs.declared.events.Note.TheVariants.{Read}
 use Rattle.two_copy_steps.specs.declared.views.Stage.{Stage}
-use Rattle.two_copy_steps.specs.declared.views.Stage.TheVariants.{AtRest, Arrived, Reading, Leaving}
+use Rattle.two_copy_steps.specs.declared.views.Stage.TheVariants.{AtRest, Arrived}
 use Rattle.two_copy_steps.specs.declared.views.Phase.{Phase}
-use Rattle.two_copy_steps.specs.declared.views.Phase.TheVariants.{Idle, Seeing, Filling, Swapping}
+use Rattle.two_copy_steps.specs.declared.views.Phase.TheVariants.{Swapping}
 use Rattle.two_copy_steps.specs.Transitions.{MachineState, is_idle, is_pending, transition}
 
 -- the linearization point of a reading is its load of side
 abbrev pub stage_effect : Stage → List Call
-stage_effect AtRest = []
 stage_effect Arrived = sequential.read ∷ []
-stage_effect (Reading side words) = []
-stage_effect (Leaving side words) = []
+stage_effect stage = []
 
 -- the linearization point of a publication is its store of side
 abbrev pub phase_effect : Phase → List Call
-phase_effect Idle = []
-phase_effect Seeing = []
-phase_effect (Filling k) = []
 phase_effect Swapping = publish ∷ []
+phase_effect phase = []
 
 abbrev pub reader_effect : Option Stage → List Call
 reader_effect None = []
@@ -71,30 +67,22 @@ abbrev pub replied_at : SequentialRun → ℕ → Stage → ℕ → Option Reply
 replied_at t number AtRest k = if k == number then None else t.replied k
 replied_at t number Arrived k =
     if k == number then slice_get (replies_of t.register (stage_effect Arrived)) 0 else t.replied k
-replied_at t number (Reading side words) k = t.replied k
-replied_at t number (Leaving side words) k = t.replied k
+replied_at t number stage k = t.replied k
 
 abbrev pub replied_to : SequentialRun → ℕ → Option Stage → ℕ → Option Reply
 replied_to t number None k = t.replied k
 replied_to t number (Some stage) k = replied_at t number stage k
 
 abbrev pub replied_after : SequentialRun → MachineState → Event → ℕ → Option Reply
-replied_after t m (Submit command) k = t.replied k
-replied_after t m Publish k = t.replied k
-replied_after t m Writer k = t.replied k
-replied_after t m (Reader zero) k = t.replied k
 replied_after t m (Reader (suc r)) k = replied_to t (suc r) (slice_get m.readers r) k
+replied_after t m event k = t.replied k
 
 -- the flag after an output: a publication begins, is abandoned, or has stored side
 abbrev pub begun_after : Bool → Note → Bool
 begun_after begun Began = true
 begun_after begun (Busy number) = false
 begun_after begun (Published front) = false
-begun_after begun (Accepted count) = begun
-begun_after begun (Refused refusal) = begun
-begun_after begun Moved = begun
-begun_after begun (Read number words) = begun
-begun_after begun Skipped = begun
+begun_after begun note = begun
 
 -- the run after an event; `m` is the machine before the event
 abbrev pub sequential_step : SequentialRun → MachineState → Event → SequentialRun
@@ -112,10 +100,8 @@ OutputIsReply replies replied (Accepted count) = replies ≡ answered (answer.Ac
 OutputIsReply replies replied (Refused why) = replies ≡ answered (answer.Refused why) ∷ []
 OutputIsReply replies replied (Published front) = replies ≡ answered (answer.Published front) ∷ []
 OutputIsReply replies replied (Read number words) = replied number ≡ Some (reading words)
-OutputIsReply replies replied Began = replies ≡ []
 OutputIsReply replies replied Moved = Unit {0}
-OutputIsReply replies replied (Busy number) = replies ≡ []
-OutputIsReply replies replied Skipped = replies ≡ []
+OutputIsReply replies replied note = replies ≡ []
 
 -- side is stored only after a publication has begun
 abbrev pub SwapsOnce : Bool → Event → Phase → Type 0

@@ -47,9 +47,7 @@ begun_by s commands = record s { writer = record s.writer { state = writing_of_s
 -- the pin at each stage: 0 for a reader at rest, otherwise 1
 abbrev pub pin_of : Stage → ℕ
 pin_of AtRest = 0
-pin_of Arrived = 1
-pin_of (Reading side words) = 1
-pin_of (Leaving side words) = 1
+pin_of stage = 1
 
 -- the last front of a record, or the given number if the record is empty
 abbrev pub last_front : ℕ → List (List ℕ) → ℕ

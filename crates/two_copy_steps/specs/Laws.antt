@@ -142,9 +142,7 @@ HasVotesInRange ledger = IsOpening ledger.opening × All SetsInRange ledger.jour
 -- an event that submits a command submits one whose votes are in range
 abbrev pub SubmitsInRange : Event → Type 0
 SubmitsInRange (Submit command) = SetsInRange command
-SubmitsInRange Publish = Unit {0}
-SubmitsInRange Writer = Unit {0}
-SubmitsInRange (Reader number) = Unit {0}
+SubmitsInRange event = Unit {0}
 
 -- each such event keeps the votes in range, and the journal publishable
 abbrev pub RangeLaw : Type 0

@@ -4,7 +4,7 @@ use Rattle.council_core.specs.Rolls.{sheet}
 use Rattle.council_core.specs.Ledgers.{Ledger, verdict_of}
 use Rattle.council_core.specs.Sheets.{front_of}
 use Rattle.two_copy_steps.specs.declared.events.Event.{Event}
-use Rattle.two_copy_steps.specs.declared.events.Event.TheVariants.{Submit, Publish, Writer, Reader}
+use Rattle.two_copy_steps.specs.declared.events.Event.TheVariants.{Submit}
 use Rattle.two_copy_steps.specs.declared.views.Stage.{Stage}
 use Rattle.two_copy_steps.specs.declared.views.Phase.{Phase}
 use Rattle.two_copy_steps.specs.declared.table.TheConstants.{READERS}
@@ -47,6 +47,4 @@ IsFew readers = (1 ≤ readers) × (readers ≤ READERS)
 -- progress
 abbrev pub WantsMemory : MachineState → Event → Type 0
 WantsMemory m (Submit command) = (is_idle m.writer.phase ≡ true) × (verdict_of m.ledger command ≡ Ok tt)
-WantsMemory m Publish = ⊥
-WantsMemory m Writer = ⊥
-WantsMemory m (Reader number) = ⊥
+WantsMemory m event = ⊥

@@ -4,8 +4,7 @@ use Rattle.std.specs.Prelude.{if◌then◌else◌, Some}
 use Rattle.std.specs.List.Sorted.{IsNonDecreasingBy}
 use Rattle.council_core.specs.Sheets.{front_of}
 use Rattle.two_copy_steps.specs.declared.events.Note.{Note}
-use Rattle.two_copy_steps.specs.declared.events.Note.TheVariants.{Accepted, Refused, Began, Moved, Published, Busy}
-use Rattle.two_copy_steps.specs.declared.events.Note.TheVariants.{Read, Skipped}
+use Rattle.two_copy_steps.specs.declared.events.Note.TheVariants.{Read}
 use Rattle.two_copy_steps.specs.declared.views.Stage.{Stage}
 use Rattle.two_copy_steps.specs.Transitions.{MachineState}
 use Rattle.two_copy_steps.specs.Auxiliary.{Auxiliary, record_at}
@@ -14,13 +13,7 @@ use Rattle.two_copy_steps.specs.Stages.{about_to_leave}
 -- the sheet in this output if it is of the reader with this number, or none
 abbrev pub reported_of : ℕ → Note → List (List ℕ)
 reported_of number (Read reader words) = if reader == number then words ∷ [] else []
-reported_of number (Accepted count) = []
-reported_of number (Refused refusal) = []
-reported_of number Began = []
-reported_of number Moved = []
-reported_of number (Published front) = []
-reported_of number (Busy reader) = []
-reported_of number Skipped = []
+reported_of number note = []
 
 -- the sheets in these outputs of the reader with this number, in order
 abbrev pub sheets_reported : ℕ → List Note → List (List ℕ)

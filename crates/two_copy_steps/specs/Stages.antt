@@ -40,10 +40,8 @@ IsReadable (Leaving side words) = (length words ≡ COPY_WORDS) × IsSheet words
 
 -- the sheet that the step from a stage returns: only the last step of a reading returns one
 abbrev pub sheet_read : Stage → Option (List ℕ)
-sheet_read AtRest = None
-sheet_read Arrived = None
-sheet_read (Reading side words) = None
 sheet_read (Leaving side words) = Some words
+sheet_read stage = None
 
 -- the words of the reading that a reader is about to leave, or none
 abbrev pub about_to_leave : Stage → List (List ℕ)

@@ -5,7 +5,7 @@ use Rattle.council_core.specs.Rolls.{Opening}
 use Rattle.council_core.specs.Sequential.{AreLegalRecords}
 use Rattle.two_copy_steps.specs.declared.views.ReaderView.{ReaderView}
 use Rattle.two_copy_steps.specs.declared.views.Stage.{Stage}
-use Rattle.two_copy_steps.specs.declared.views.Stage.TheVariants.{AtRest, Arrived, Reading, Leaving}
+use Rattle.two_copy_steps.specs.declared.views.Stage.TheVariants.{Leaving}
 use Rattle.two_copy_steps.specs.Lawful.{State, IsLawfulState, IsPublishable}
 use Rattle.two_copy_steps.specs.Stages.{IsReadable}
 
@@ -14,10 +14,8 @@ IsLawfulBoard opening s = IsLawfulState opening (IsPublishable opening) s
 
 -- the last sheet in the record of a reader that has loaded all words has these words
 abbrev pub EndsWith : List (List ℕ) → Stage → Type 0
-EndsWith readings AtRest = Unit {0}
-EndsWith readings Arrived = Unit {0}
-EndsWith readings (Reading side words) = Unit {0}
 EndsWith readings (Leaving side words) = (earlier : List (List ℕ)) × (readings ≡ earlier ++ words ∷ [])
+EndsWith readings stage = Unit {0}
 
 -- a reader's view: its record is legal for some list and cuts, and the words that it has loaded are
 -- those of a sheet

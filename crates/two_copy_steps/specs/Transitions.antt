@@ -14,7 +14,7 @@ use Rattle.two_copy_steps.specs.declared.events.Note.TheVariants.{Accepted, Refu
 use Rattle.two_copy_steps.specs.declared.events.Note.TheVariants.{Read, Skipped}
 use Rattle.two_copy_steps.specs.declared.views.Writing.{Writing}
 use Rattle.two_copy_steps.specs.declared.views.Stage.{Stage}
-use Rattle.two_copy_steps.specs.declared.views.Stage.TheVariants.{AtRest, Arrived, Reading, Leaving}
+use Rattle.two_copy_steps.specs.declared.views.Stage.TheVariants.{AtRest, Leaving}
 use Rattle.two_copy_steps.specs.declared.views.Phase.{Phase}
 use Rattle.two_copy_steps.specs.declared.views.Phase.TheVariants.{Idle, Seeing, Filling, Swapping}
 use Rattle.two_copy_steps.specs.Actions.{first_false, stage_action, writing_action, writing_of_staged}
@@ -29,9 +29,7 @@ pub record MachineState : Type 0 where
 
 abbrev pub is_idle : Phase → Bool
 is_idle Idle = true
-is_idle Seeing = false
-is_idle (Filling k) = false
-is_idle Swapping = false
+is_idle phase = false
 
 -- both copies have the register's sheet, and all readers are quiescent and at rest
 abbrev pub machine_at_start : Ledger → ℕ → MachineState
@@ -85,10 +83,8 @@ writer_transition m =
 
 -- the output of the step of the reader with this number, by its stage
 abbrev pub stage_note : ℕ → Stage → Note
-stage_note number AtRest = Moved
-stage_note number Arrived = Moved
-stage_note number (Reading side words) = Moved
 stage_note number (Leaving side words) = Read number words
+stage_note number stage = Moved
 
 -- the machine after the reader at r takes its step
 abbrev pub after_reader_step : MachineState → ℕ → Stage → MachineState

@@ -5,14 +5,14 @@ use Rattle.council_core.specs.Rolls.{Opening}
 use Rattle.council_core.specs.Sequential.{AreLegalRecords}
 use Rattle.council_core.specs.declared.commands.Command.{Command}
 use Rattle.two_copy_steps.specs.declared.views.Stage.TheVariants.{Arrived, AtRest}
-use Rattle.board_share.specs.Readers.{ReaderSeen}
+use Rattle.board_share.specs.Readers.{ReaderState}
 use Rattle.two_threads.specs.Sessions.{IsNew}
 
 -- a reader at rest with no readings is new; one in the middle of a reading, or with a reading, is not
-new : (p : ReaderSeen) → IsNew (record p { stage = AtRest; readings = [] })
+new : (p : ReaderState) → IsNew (record p { stage = AtRest; readings = [] })
 new p = record { rest = refl; none = refl }
 
-not_new : (p : ReaderSeen) → (IsNew (record p { stage = Arrived; readings = [] }) → ⊥) × (IsNew (record p { stage = AtRest; readings = [] ∷ [] }) → ⊥)
+not_new : (p : ReaderState) → (IsNew (record p { stage = Arrived; readings = [] }) → ⊥) × (IsNew (record p { stage = AtRest; readings = [] ∷ [] }) → ⊥)
 not_new p = ((λ h. cc h.rest), (λ h. cc h.none))
 
 -- no cut is of more commands than the journal has

@@ -1,16 +1,14 @@
 //! An example program: a writer and a reader of one board, each in a separate thread, and an audit of the readings.
 #![tactic(auto)]
 
-mod faults;
 mod sessions;
 mod work;
 
+use anyhow::Result;
 use council_core::{ChairId, Command, MemberCode, Refusal, Votes};
-use faults::SessionFault;
 use sessions::{Session, hold};
 use std::alloc::Global;
 use std::io;
-use std::process::ExitCode;
 use std::sync::Wait;
 use std::thread::Threads;
 
@@ -45,18 +43,14 @@ fn report(rt: &(impl Print + Alloc), session: &Session) -> io::Result<()> {
 }
 
 // Holds a session and returns its result, or the error that ended it early.
-fn held<R: Threads + Wait + Sync>(rt: &R, alloc: Global) -> Result<Session, SessionFault> {
+fn held<R: Threads + Wait + Sync>(rt: &R, alloc: Global) -> Result<Session> {
     let members = members()?;
     let commands = commands(&members)?;
     hold(rt, alloc, &members, &commands)
 }
 
-fn main(rt: HostRuntime) -> ExitCode {
-    match held(&rt, rt.alloc()) {
-        Ok(session) => match report(&rt, &session) {
-            Ok(()) => ExitCode::SUCCESS,
-            Err(_) => ExitCode::FAILURE,
-        },
-        Err(_) => ExitCode::FAILURE,
-    }
+fn main(rt: HostRuntime) -> Result<()> {
+    let session = held(&rt, rt.alloc())?;
+    report(&rt, &session)?;
+    Ok(())
 }

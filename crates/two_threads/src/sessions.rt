@@ -4,8 +4,8 @@ ghost use Rattle.council_core.specs.Sequential.{AreLegalRecords};
 ghost use Rattle.board_share.specs.Readers.{IsLegalRecord};
 ghost use Rattle.two_threads.specs.Sessions.{IsNew};
 
-use crate::faults::SessionFault;
 use crate::work::{WrittenSession, read_often, write_all};
+use anyhow::Result;
 use board_share::{Reader, Writer, audit, start};
 use council_core::{Command, MAX_COMMANDS, MemberCode, Register, Sheet, Votes};
 use std::alloc::Global;
@@ -21,7 +21,7 @@ pub(crate) struct Session {
 }
 
 // A board over these members: a writer, and a reader that has not read.
-fn seat(alloc: Global, members: &[(MemberCode, Votes)]) -> Result<(Writer, Reader), SessionFault>
+fn seat(alloc: Global, members: &[(MemberCode, Votes)]) -> Result<(Writer, Reader)>
     ensures writer { IfOk result (λ b. b.0.ledger.journal ≡ []) }
     ensures reader { IfOk result (λ b. IsNew b.1) }
     ensures opening { IfOk result (λ b. b.1.opening ≡ members.now) }
@@ -29,7 +29,7 @@ fn seat(alloc: Global, members: &[(MemberCode, Votes)]) -> Result<(Writer, Reade
     let register = Register::start(alloc, members, MAX_COMMANDS)?;
     let (writer, mut readers) = match start(alloc, register, 1) {
         Ok(board) => board,
-        Err((_, why)) => return Err(SessionFault::Refused(why)),
+        Err((_, why)) => return Err(why.into()),
     };
     let Some(reader) = readers.pop() else {
         unreachable!();
@@ -44,17 +44,17 @@ fn run_both<R: Threads + Wait + Sync>(
     writer: Writer,
     reader: Reader,
     commands: &[Command],
-) -> Result<(WrittenSession, Vec<Sheet>), SessionFault>
+) -> Result<(WrittenSession, Vec<Sheet>)>
     requires writer { writer.ledger.journal ≡ [] }
     requires reader { IsNew reader }
     ensures journal { IfOk result (λ r. r.0.journal.items ≡ commands.now) }
     ensures record { IfOk result (λ r. IsLegalRecord reader.opening r.1.items) }
 {
-    let write = move || -> Result<WrittenSession, SessionFault>
+    let write = move || -> Result<WrittenSession>
         requires { writer.ledger.journal ≡ [] }
         ensures { IfOk result (λ w. w.journal.items ≡ commands.entry.now) }
     { write_all(rt, alloc, writer, commands) };
-    let read = move || -> Result<Vec<Sheet>, SessionFault>
+    let read = move || -> Result<Vec<Sheet>>
         requires { IsNew reader }
         ensures { IfOk result (λ sheets. IsLegalRecord reader.opening sheets.items) }
     { read_often(alloc, reader) };
@@ -68,14 +68,13 @@ fn run_both<R: Threads + Wait + Sync>(
 //
 // # Errors
 //
-// - `Refused`: the refusal of the members or of a command, or `OutOfMemory`.
-// - `Audit`: the fault that the audit found.
+// The refusal of the members or of a command, out of memory, or the fault that the audit found.
 pub(crate) fn hold<R: Threads + Wait + Sync>(
     rt: &R,
     alloc: Global,
     members: &[(MemberCode, Votes)],
     commands: &[Command],
-) -> Result<Session, SessionFault>
+) -> Result<Session>
     ensures journal { IfOk result (λ s. s.journal.items ≡ commands.now) }
     ensures record { IfOk result (λ s. IsLegalRecord members.now s.sheets.items) }
     ensures audited { IfOk result

@@ -3,7 +3,7 @@ ghost use Rattle.std.specs.Prelude.{◌≡◌, [], vec_len, IfOk};
 ghost use Rattle.board_share.specs.Readers.{IsLegalRecord};
 ghost use Rattle.two_threads.specs.Sessions.{IsNew};
 
-use crate::faults::SessionFault;
+use anyhow::Result;
 use board_share::{Reader, Writer};
 use council_core::{Command, Sheet};
 use std::alloc::Global;
@@ -26,7 +26,7 @@ pub(crate) fn write_all<R: Wait>(
     alloc: Global,
     mut writer: Writer,
     commands: &[Command],
-) -> Result<WrittenSession, SessionFault>
+) -> Result<WrittenSession>
     requires new { writer.ledger.journal ≡ [] }
     ensures journal { IfOk result (λ w. w.journal.items ≡ commands.now) }
 {
@@ -42,7 +42,7 @@ pub(crate) fn write_all<R: Wait>(
 
 // Reads `READINGS` times. The sheets are the record of a legal register, and their fronts never
 // decrease.
-pub(crate) fn read_often(alloc: Global, mut reader: Reader) -> Result<Vec<Sheet>, SessionFault>
+pub(crate) fn read_often(alloc: Global, mut reader: Reader) -> Result<Vec<Sheet>>
     requires new { IsNew reader }
     ensures record { IfOk result (λ sheets. IsLegalRecord reader.opening sheets.items) }
     ensures count { IfOk result (λ sheets. vec_len sheets ≡ READINGS) }

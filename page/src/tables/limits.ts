@@ -39,10 +39,11 @@ export function checkTags(text: string, what: string, most = MOST_TAGS): void {
   }
 }
 
-/** Refuses a text by its letters. */
+/** Refuses a text by its characters. */
 export function checkLetters(text: string, what: string): void {
   if (text.length > MOST_TEXT) {
-    throw new Unreadable(`${what} has ${counted(text.length, "letter")}, and at most ${grouped(MOST_TEXT)} are read.`);
+    const many = counted(text.length, "character");
+    throw new Unreadable(`${what} has ${many}, and at most ${grouped(MOST_TEXT)} are read.`);
   }
 }
 

@@ -94,7 +94,7 @@ export function openBest(app: App): void {
   if (!shown) return;
   const words =
     "Each member that isn't suspended is moved to the chair, or to each other open chair, on the changed board, and " +
-    `the program counts. The measure is the one chosen above the chart: ${MEASURE[app.view.measure].label}.`;
+    `the register counts. The measure is the one chosen above the chart: ${MEASURE[app.view.measure].label}.`;
   const work = new LongWork(app);
   const dialog = openDialog(
     "best",

@@ -7,8 +7,9 @@
     2 1 1/5
     3 1 1/5
 
-The counts, the register and the reading of scripts are calls of a library that is proved. "Proved" ends at these calls:
-the package's own work, such as tables, fractions and messages, is tested.
+The counts, the register and the reading of scripts are calls of a library that is proved, or of the same compiled from
+board.c, which is made from it in steps that are tested. The package's own work, such as tables, fractions and messages,
+is tested.
 """
 from .boards import indices, indices_of_all, indices_of_members
 from .many import ManyIndices, indices_of_many

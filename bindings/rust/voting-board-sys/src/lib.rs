@@ -1,4 +1,5 @@
-//! The calls of `board.h`, as they are: a proved library that counts voting power and keeps registers of a board.
+//! The calls of `board.h`, as they are: counts of voting power and registers of a board, by a library made from proved
+//! code.
 //!
 //! The comments of `board.h`, which is in this package, are the contract of each call. This crate declares them and
 //! compiles `board.c`, the library as one C file. The crate `voting-board` is safe and made for use.

@@ -25,8 +25,9 @@
 //!
 //! # What is proved
 //!
-//! The library that this crate calls is proved: counts, registers, and the reading of scripts. This crate itself is
-//! tested and not proved: it converts values, checks arguments, makes fractions of counts and forms messages.
+//! The calls of the library are proved: counts, registers and the reading of scripts. `board.c`, which is compiled
+//! where no library is given, is made from what is proved in steps that are tested. This crate is tested and not
+//! proved: it converts values, checks arguments, makes fractions of counts and forms messages.
 //!
 //! # Threads
 //!

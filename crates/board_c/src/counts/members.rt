@@ -32,6 +32,7 @@ fn counted_votes(member: &BoardMember) -> u64
     }
 }
 
+// Whether a member sits in this chair, suspended or not.
 fn sits(member: &BoardMember, chair: u64) -> bool
     requires some { 0 < chair }
     ensures sits { result ≡ sits_in chair (standing_of member.now) }
@@ -51,6 +52,7 @@ fn votes_in(member: &BoardMember, chair: u64) -> u64
     }
 }
 
+// Whether the mask names this chair.
 fn names(mask: u32, chair: u64) -> bool
     requires some { 0 < chair }
     requires bound { chair ≤ CHAIRS }
@@ -76,6 +78,7 @@ fn total_of(members: &[BoardMember]) -> Result<u64, Refusal>
     Ok(total)
 }
 
+// The word of this chair.
 fn word_of(members: &[BoardMember], mask: u32, chair: u64) -> u64
     requires some { 0 < chair }
     requires bound { chair ≤ CHAIRS }
@@ -95,6 +98,7 @@ fn word_of(members: &[BoardMember], mask: u32, chair: u64) -> u64
     }
 }
 
+// The words of a board's sheet, before any command.
 fn words_of_members(members: &[BoardMember], mask: u32) -> Result<[u64; SHEET_WORDS], Refusal>
     ensures same { IfOk result (λ words. words ≡ member_words members.now mask) }
     ensures board { IfOk result (λ _. IsBoard members.now) }
@@ -109,6 +113,7 @@ fn words_of_members(members: &[BoardMember], mask: u32) -> Result<[u64; SHEET_WO
     Ok(words)
 }
 
+// The sheet of a board, before any command.
 pub(crate) fn sheet_of_members(members: &[BoardMember], mask: u32) -> Result<Sheet, Refusal>
     ensures same { IfOk result (λ sheet. sheet ≡ member_words members.now mask) }
     ensures whole { IfOk result (λ sheet. IsSheetInRange sheet) }

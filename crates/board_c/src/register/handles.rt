@@ -25,10 +25,11 @@ impl Model for BoardRegister {
     ghost also_owns = { λ h. keeps h.at h.state h.register };
 }
 
-// It may go to another thread, as what it owns may.
+// SAFETY: proved: what a handle owns, a box of a register, may go to another thread.
 unsafe impl Send for BoardRegister {}
 
 impl BoardRegister {
+    // The state. The handle is borrowed mutably, as by every call of the library.
     pub(crate) fn state(&mut self) -> u64
         ensures { (result ≡ self.old.state) × (self.new ≡ self.old) }
     {
@@ -45,7 +46,7 @@ impl BoardRegister {
         Loose { at, alloc }
     }
 
-    // Puts a register in.
+    // Puts a register in. One that was there would be lost: `replace` frees it first.
     pub(crate) fn hold(&mut self, register: Loose<PublishedRegister, Global>)
         ensures { (self.new.register ≡ register.value) × (self.new.state ≡ 1) }
     {

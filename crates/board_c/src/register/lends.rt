@@ -12,5 +12,6 @@ pub(crate) fn register_of(handle: &mut BoardRegister) -> &mut PublishedRegister
     ensures* writes_back { sem 𝓛 (LendsRegister handle.entry result) }
     ensures value { result.now ≡ handle.old.register }
 {
+    // SAFETY: proved, from `keeps`: in this state the handle owns the box at `at`.
     unsafe { &mut *(handle.at as *mut PublishedRegister) }
 }

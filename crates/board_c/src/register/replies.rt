@@ -11,8 +11,9 @@ ghost use Rattle.board_c.specs.Calls.{AcceptsAs, Begins, IsStructOf, Sets, at_in
 ghost use Rattle.board_c.specs.Calls.{command_reply, opening_entry, reply_number, row_at, start_reply};
 
 use crate::DONE;
+use crate::answers::answer;
 use c_values::{
-    BoardAllCounts, BoardCommand, BoardCounts, BoardEntry, BoardMemberRow, all_counts_of_sheet,
+    BoardAllCounts, BoardCommand, BoardCounts, BoardEntry, BoardMemberRow, all_counts_for,
     command_for, command_of, counts_by_number, entry_for, opening_of, row_for,
 };
 use council_core::{ChairId, PublishedRegister, Refusal, Register, SHEET_WORDS, Sheet};
@@ -47,6 +48,7 @@ pub(crate) fn copy_boxed(
     Ok(Box::new(alloc, copy)?)
 }
 
+// Carries out the command that a struct gives.
 pub(crate) fn apply_to(
     register: &mut PublishedRegister,
     command: &BoardCommand,
@@ -61,6 +63,7 @@ pub(crate) fn apply_to(
     register.apply(command)
 }
 
+// Checks the command that a struct gives.
 pub(crate) fn check_on(register: &PublishedRegister, command: &BoardCommand) -> Result<(), Refusal>
     ensures { result ≡ command_reply (Some register.now) (given_command command.now) }
 {
@@ -157,13 +160,7 @@ fn write_counts(sheet: &Sheet, majority: u32, room: &mut ListRoom, counts: &mut 
     ensures { Sets (by_majority majority (Ok sheet.now)) result counts.old counts.new
         (λ words. ShowsCounts majority words counts.new) }
 {
-    match counts_by_number(sheet, majority, room) {
-        Ok(new) => {
-            *counts = new;
-            DONE
-        }
-        Err(why) => why.code(),
-    }
+    answer(counts_by_number(sheet, majority, room), counts)
 }
 
 // Writes the counts of the register's sheet.
@@ -196,5 +193,5 @@ pub(crate) fn write_shown_counts(
 pub(crate) fn all_counts_of(register: &PublishedRegister, room: &mut ListRoom) -> BoardAllCounts
     ensures { ShowsAllCounts (sheet_of register.now.ledger) result }
 {
-    all_counts_of_sheet(&own_sheet(register), room)
+    all_counts_for(&own_sheet(register), room)
 }

@@ -1,4 +1,4 @@
-//! The two kinds of run, and their limits.
+//! The two kinds of run.
 ghost use Rattle.std.specs.Prelude.{◌≡◌, Some};
 ghost use Rattle.recording_io.specs.Tapes.{IsSameWriter, OfInput};
 ghost use Rattle.board_runs.specs.Ended.{WritesOutput};

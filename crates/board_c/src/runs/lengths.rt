@@ -25,6 +25,7 @@ fn measure_lack_of_memory() -> Shown
     }
 }
 
+// The length of the text of a run with these limits, or of the line of OutOfMemory.
 fn measure_text(alloc: Global, kind: Kind, input: &[u8], limits: Limits) -> Shown
     ensures measures { Measures (run_as kind limits input.now) result.count (answer_of result.end)
         (record_of result.end) }

@@ -4,7 +4,7 @@ ghost use Rattle.board_c.specs.Items.{item_as, item_with, only_kind, with_span};
 
 use crate::script::lines::LineSpan;
 use board_text::Request;
-use c_values::{BoardCommand, PUBLISH, READ, command_for, number_for};
+use c_values::{BoardCommand, PUBLISH, READ, command_for};
 use council_core::Order;
 
 /// What a record of a script asks for, and where it stands, as `struct board_item` in `board.h`. A
@@ -39,6 +39,7 @@ fn only_kind(kind: u32) -> BoardCommand
     }
 }
 
+// An item with these parts.
 fn item_with(
     number: u32,
     span: LineSpan,
@@ -77,7 +78,7 @@ pub(crate) fn item_for(number: u32, span: LineSpan, request: Request) -> BoardIt
                 span,
                 only_kind(READ),
                 u32::from(reader),
-                number_for(majority),
+                majority.number(),
             )
         }
     }

@@ -6,7 +6,7 @@ ghost use Rattle.board_c.specs.TextLines.{line_after, lines_end, mark_size};
 
 use board_text::INPUT_LIMIT;
 
-/// The offsets of a line's first byte and of the byte after its last one. The line has a byte.
+// The offsets of a line's first byte and of the byte after its last one. The line has a byte.
 #[derive(Clone, Copy)]
 pub(crate) struct LineSpan {
     pub(crate) from: u32,

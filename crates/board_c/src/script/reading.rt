@@ -10,7 +10,7 @@ use crate::limits::limits_of;
 use crate::script::items::BoardItem;
 use crate::script::members::check_opening;
 use crate::script::records::read_records;
-use board_text::{INPUT_LIMIT, Limits, Script, Stop, read_opening};
+use board_text::{INPUT_LIMIT, Limits, Script, Stop, read_preamble};
 use council_core::{MAX_COMMANDS, MemberCode, Refusal, Votes};
 use csv::ByteRecord;
 use std::alloc::Global;
@@ -34,11 +34,12 @@ fn read_text(
 {
     let mut script = Script::new(alloc, text);
     let mut row = ByteRecord::new(alloc);
-    let first = read_opening(&mut script, &mut row, members)?;
-    let _register = check_opening(alloc, members.as_slice(), limits)?;
+    let first = read_preamble(&mut script, &mut row, members)?;
+    check_opening(alloc, members.as_slice(), limits)?;
     read_records(text, &mut script, &mut row, limits, first, items, count)
 }
 
+// Reads an input, if its limits and its length are in range.
 pub(crate) fn read_input(
     alloc: Global,
     input: &[u8],

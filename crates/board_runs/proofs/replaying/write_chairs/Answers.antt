@@ -26,5 +26,5 @@ loop-row-preserved g c =
     } in
     record {
       so_far = rows-more chair_line _ _ _ c.args.rows.now c.loop-row.row-index row c.loop-row.invariant.so_far c.in_ok-write_line.ensures.written;
-      continues = (c.in_ok-write_line.ensures.continues.0 ∙ c.loop-row.invariant.continues.0, c.in_ok-write_line.ensures.continues.1 ∙ c.loop-row.invariant.continues.1, omega (arith, c.loop-row.invariant.continues.2, c.in_ok-write_line.ensures.continues.2));
+      same_output = (c.in_ok-write_line.ensures.same_output.0 ∙ c.loop-row.invariant.same_output.0, c.in_ok-write_line.ensures.same_output.1 ∙ c.loop-row.invariant.same_output.1, omega (arith, c.loop-row.invariant.same_output.2, c.in_ok-write_line.ensures.same_output.2));
     }

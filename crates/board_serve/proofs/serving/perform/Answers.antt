@@ -5,35 +5,17 @@ use Rattle.council_core.specs.declared.calls.Order.{Order}
 use Rattle.board_text.specs.declared.stops.Stop.{Stop}
 use Rattle.board_serve.specs.Work.{StopsAll}
 use Rattle.board_serve.specs.Plans.{plan_over, records_of}
-use Rattle.board_serve.proofs.OutcomeFacts.{outcome-of, seated, served-cuts}
+use Rattle.board_serve.proofs.OutcomeFacts.{outcome-of, seated}
 use Rattle.board_serve.proofs.serving.perform.Goals as goal
-
-pub are_legal-requires-clause-legal : goal.are_legal-requires-clause-legal
-are_legal-requires-clause-legal g c =
-    let parts = c.into_parts-register in
-    let work = c.in_ok-work.work in
-    let start = c.in_ok-work.ensures in
-    let seats = seated parts.result.0 parts.result.1 work parts.ensures.starts start.writer start.orders start.readers start.asked in
-    rw (c.as_slice.ensures.value, c.in_ok-members.ensures.items, c.opening.ensures.members)
-    (outcome-of (plan_over parts.result.0 (records_of parts.result.1)) work c.in_ok-done.done c.in_ok-answers.answers.items c.in_ok-answers.served seats c.in_ok-done.ensures.done c.in_ok-answers.ensures.brought).served.legal_journal
-
-pub are_legal-requires-clause-in_order : goal.are_legal-requires-clause-in_order
-are_legal-requires-clause-in_order g c =
-    let parts = c.into_parts-register in
-    let p = plan_over parts.result.0 (records_of parts.result.1) in
-    let work = c.in_ok-work.work in
-    let start = c.in_ok-work.ensures in
-    let seats = seated parts.result.0 parts.result.1 work parts.ensures.starts start.writer start.orders start.readers start.asked in
-    served-cuts p c.in_ok-answers.served (outcome-of p work c.in_ok-done.done c.in_ok-answers.answers.items c.in_ok-answers.served seats c.in_ok-done.ensures.done c.in_ok-answers.ensures.brought).served
 
 pub returns-clause-done : goal.returns-clause-done
 returns-clause-done g c =
     let parts = c.into_parts-register in
     let work = c.in_ok-work.work in
     let start = c.in_ok-work.ensures in
-    let seats = seated parts.result.0 parts.result.1 work parts.ensures.starts start.writer start.orders start.readers start.asked in
+    let seats = seated parts.result.0 parts.result.1 work parts.ensures.empty start.writer start.orders start.readers start.asked in
     rw parts.ensures.parts
-    (outcome-of (plan_over parts.result.0 (records_of parts.result.1)) work c.in_ok-done.done c.in_ok-answers.answers.items c.in_ok-answers.served seats c.in_ok-done.ensures.done c.in_ok-answers.ensures.brought)
+    (outcome-of (plan_over parts.result.0 (records_of parts.result.1)) work c.in_ok-done.done c.in_ok-answers.answers.items c.in_ok-answers.served seats c.in_ok-done.ensures.done c.in_ok-answers.ensures.collected)
 
 pub returns-clause-records : goal.returns-clause-records
 returns-clause-records g c = rw (c.into_parts-register.ensures.parts, ← c.opening.ensures.members, ← c.in_ok-members.ensures.items, ← c.as_slice.ensures.value) c.in_ok-legal.ensures.legal
@@ -47,6 +29,6 @@ returns-in_err-done-clause-stopped g c =
     let parts = c.into_parts-register in
     let work = c.in_ok-work.work in
     let start = c.in_ok-work.ensures in
-    let seats = seated parts.result.0 parts.result.1 work parts.ensures.starts start.writer start.orders start.readers start.asked in
+    let seats = seated parts.result.0 parts.result.1 work parts.ensures.empty start.writer start.orders start.readers start.asked in
     let P : Sequential × List Order × Stop → Type 0 = λ z. StopsAll z.0 z.1 z.2 in
     rw (p.1, parts.ensures.parts) (subst P (λ i. (seats.start i, seats.orders i, sym p.2 i)) c.in_err-done.ensures.stopped)

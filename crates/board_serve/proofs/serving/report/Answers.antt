@@ -15,8 +15,8 @@ returns-in_err-write_counts-clause-wrote g c =
 
 pub returns-then-not-legal-clause-wrote : goal.returns-then-not-legal-clause-wrote
 returns-then-not-legal-clause-wrote g c =
-    audit-then c.args.answers.now (c.args.counts.0 ∷ c.args.counts.1 ∷ []) c.args.legal c.args.out.now.held c.write_answers.new.out.held c.write_counts.new.out.held c.write_counts.new.out.held tt tt (Err c.at.result) c.in_ok-write_answers.ensures.wrote c.in_ok-write_counts.ensures.wrote
-    (mismatch-plays c.write_counts.new.out.held c.args.legal c.at.result (search rules) c.at.ensures.same)
+    audit-then c.args.answers.now (c.args.counts.0 ∷ c.args.counts.1 ∷ []) c.args.legal c.args.out.now.contents c.write_answers.new.out.contents c.write_counts.new.out.contents c.write_counts.new.out.contents tt tt (Err c.at.result) c.in_ok-write_answers.ensures.wrote c.in_ok-write_counts.ensures.wrote
+    (mismatch-plays c.write_counts.new.out.contents c.args.legal c.at.result (search rules) c.at.ensures.same)
 
 pub returns-clause-wrote : goal.returns-clause-wrote
 returns-clause-wrote g c =

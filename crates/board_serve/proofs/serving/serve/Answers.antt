@@ -7,11 +7,11 @@ use Rattle.board_serve.proofs.serving.serve.Goals as goal
 
 pub returns-clause-wrote : goal.returns-clause-wrote
 returns-clause-wrote g c = λ bytes is.
-    let ended = ended-serve c.new-output.result.held c.serve_to-carried.new.out.held c.end_run-result.new.out.held c.serve_to-carried.result c.end_run-result.result (plan_of c.args.journal_limit bytes)
+    let ended = ended-serve c.new-output.result.contents c.serve_to-carried.new.out.contents c.end_run-result.new.out.contents c.serve_to-carried.result c.end_run-result.result (plan_of c.args.journal_limit bytes)
     (c.serve_to-carried.ensures.wrote bytes is) c.end_run-result.ensures.ends in
     search rules
 
 pub returns-clause-reads : goal.returns-clause-reads
 returns-clause-reads g c =
-    reads-ended c.args.input.now.calls c.serve_to-carried.new.input.calls Served c.serve_to-carried.new.out.held c.end_run-result.new.out.held
+    reads-ended c.args.input.now.calls c.serve_to-carried.new.input.calls Served c.serve_to-carried.new.out.contents c.end_run-result.new.out.contents
     c.serve_to-carried.result c.end_run-result.result c.end_run-result.ensures.ends c.serve_to-carried.ensures.reads

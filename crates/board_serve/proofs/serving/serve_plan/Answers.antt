@@ -7,7 +7,7 @@ use Rattle.board_serve.proofs.serving.serve_plan.Goals as goal
 pub returns-in_err-answers-clause-wrote : goal.returns-in_err-answers-clause-wrote
 returns-in_err-answers-clause-wrote g c =
     let p = err_from_is_err_and c.from_residual.result c.from_residual.ensures.1 in
-    rw p.1 (held-serve c.args.out.now.held c.in_err-answers.field-0.0 p.0 c.args.plan p.2 c.in_err-answers.ensures.stopped)
+    rw p.1 (held-serve c.args.out.now.contents c.in_err-answers.field-0.0 p.0 c.args.plan p.2 c.in_err-answers.ensures.stopped)
 
 pub returns-in_err-report-clause-wrote : goal.returns-in_err-report-clause-wrote
 returns-in_err-report-clause-wrote g c =
@@ -21,7 +21,7 @@ returns-in_err-report-clause-wrote g c =
       replies = ap (map answered) c.as_slice.ensures.value ∙ performed.ensures.done.replies;
       counted = c.counts-counts.ensures.same;
     } in
-    rw p.1 (stopped-serve c.args.out.now.held c.report.new.out.held c.args.plan performed.served performed.legal c.as_slice.result.now counts done
+    rw p.1 (stopped-serve c.args.out.now.contents c.report.new.out.contents c.args.plan performed.served performed.legal c.as_slice.result.now counts done
     c.in_err-report.field-0.0 p.0 p.2 c.in_err-report.ensures.causes c.in_err-report.ensures.wrote)
 
 pub returns-clause-wrote : goal.returns-clause-wrote
@@ -35,4 +35,4 @@ returns-clause-wrote g c =
       replies = ap (map answered) c.as_slice.ensures.value ∙ performed.ensures.done.replies;
       counted = c.counts-counts.ensures.same;
     } in
-    whole-serve c.args.out.now.held c.report.new.out.held c.args.plan performed.served performed.legal c.as_slice.result.now counts done tt c.in_ok-report.ensures.wrote
+    whole-serve c.args.out.now.contents c.report.new.out.contents c.args.plan performed.served performed.legal c.as_slice.result.now counts done tt c.in_ok-report.ensures.wrote

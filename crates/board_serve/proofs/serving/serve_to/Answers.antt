@@ -15,15 +15,15 @@ pub returns-in_err-plan-clause-wrote : goal.returns-in_err-plan-clause-wrote
 returns-in_err-plan-clause-wrote g c = λ bytes is.
     let p = err_from_is_err_and c.from_residual.result c.from_residual.ensures.1 in
     let lim = two_readers c.args.journal_limit in
-    rw p.1 (fails-serve c.args.out.now.held c.interpret.new.out.held c.in_err-plan.field-0.0 p.0 (interpreted_course plan_start request_within plan_effect lim bytes) p.2
+    rw p.1 (fails-serve c.args.out.now.contents c.interpret.new.out.contents c.in_err-plan.field-0.0 p.0 (interpreted_course plan_start request_within plan_effect lim bytes) p.2
     (plan-lines lim (started_of lim bytes)) (c.in_err-plan.ensures.wrote bytes is))
 
 pub returns-clause-wrote : goal.returns-clause-wrote
 returns-clause-wrote g c = λ bytes is.
     let lim = two_readers c.args.journal_limit in
     let nothing = appends-same _ _ _ _ (ap text_of (plan-lines lim (started_of lim bytes))) (c.in_ok-plan.ensures.wrote bytes is).1 in
-    let P : Result Planned Fault → Type 0 = WritesServeRun c.interpret.new.out.held c.serve_plan.new.out.held c.serve_plan.result in
-    after-nothing c.args.out.now.held c.interpret.new.out.held c.serve_plan.new.out.held c.serve_plan.result (plan_of c.args.journal_limit bytes) nothing
+    let P : Result Planned Fault → Type 0 = WritesServeRun c.interpret.new.out.contents c.serve_plan.new.out.contents c.serve_plan.result in
+    after-nothing c.args.out.now.contents c.interpret.new.out.contents c.serve_plan.new.out.contents c.serve_plan.result (plan_of c.args.journal_limit bytes) nothing
     (subst P (sym (c.in_ok-plan.ensures.ended bytes is)) c.serve_plan.ensures.wrote)
 
 pub returns-in_err-plan-clause-reads : goal.returns-in_err-plan-clause-reads

@@ -10,7 +10,7 @@ of_words-requires c =
 pub returns : goal.returns
 returns c =
     let t = c.in_ok-table.ensures in
-    let long = words_long c.args.begun.now.readers c.words.result _ (c.as_slice.ensures.same ∙ c.start-words.ensures.words) c.words.ensures.long in
+    let long = words_long c.args.origin.now.readers c.words.result _ (c.as_slice.ensures.same ∙ c.start-words.ensures.words) c.words.ensures.long in
     record {
       laid = rw c.in_ok-new.ensures.ok record { same = t.2; words = t.0 ∙ long; whole = omega arith; view = t.4 };
     }

@@ -1,7 +1,7 @@
 use Rattle.board_share.proofs.Names.{add-one, all_true, ap, arith, Bool, Busy, cond, due_at, eq-eqb, false, Filling}
 use Rattle.board_share.proofs.Names.{held_by, Idle, length, length-set, List, look_count, ne_eqb, Publishing, refl}
 use Rattle.board_share.proofs.Names.{same_Some, Seeing, seeing_phase, set, slice_get, Some, subst, suc, sym, take, true}
-use Rattle.board_share.proofs.Names.{true≢false, unseen_count, WriterTook, ℕ, ◌+◌, ◌-◌, ◌∙◌, ◌≡◌}
+use Rattle.board_share.proofs.Names.{true≢false, not_quiescent, WriterTook, ℕ, ◌+◌, ◌-◌, ◌∙◌, ◌≡◌}
 use Rattle.std.proofs.lemmas.List.{take_all}
 use Rattle.two_copy_steps.specs.Actions.{pin}
 use Rattle.board_share.specs.Writers.{publishing_view}
@@ -76,10 +76,10 @@ loop-r-preserved c =
     let count = i.count in
     let was = i.unseen_less in
     let less = unseen_set c.loop-r.seen_out c.loop-r.r c.if-get.ensures.same in
-    let now : unseen_count c.set.new.self ≡ unseen_count (set c.loop-r.seen_out c.loop-r.r true) =
-    ap unseen_count c.set.ensures in
-    let n : (unseen_count c.args.seen_out.now - unseen_count c.loop-r.seen_out) + 1
-    ≡ unseen_count c.args.seen_out.now - unseen_count c.set.new.self = omega arith in
+    let now : not_quiescent c.set.new.self ≡ not_quiescent (set c.loop-r.seen_out c.loop-r.r true) =
+    ap not_quiescent c.set.ensures in
+    let n : (not_quiescent c.args.seen_out.now - not_quiescent c.loop-r.seen_out) + 1
+    ≡ not_quiescent c.args.seen_out.now - not_quiescent c.set.new.self = omega arith in
     record {
       table = step.same ∙ i.table;
       publishing = subst (λ (k : ℕ). Publishing c.args.register.now c.args.seat.now.me c.load_pin.new.seat.me k
@@ -107,10 +107,10 @@ returns-clause-out c =
     sym (take_all c.loop-r.r c.loop-r.seen_out (omega arith)) in
     let all : all_true c.loop-r.seen_out ≡ true = ap all_true whole ∙ i.first in
     let none = none_unseen c.loop-r.seen_out all in
-    let n : unseen_count c.args.seen_out.now - unseen_count c.loop-r.seen_out ≡ unseen_count c.args.seen_out.now =
+    let n : not_quiescent c.args.seen_out.now - not_quiescent c.loop-r.seen_out ≡ not_quiescent c.args.seen_out.now =
     omega arith in
     subst (λ (k : ℕ). Publishing c.args.register.now c.args.seat.now.me c.loop-r.seat.me k c.loop-r.seen_out
     (Filling 0)) n
     (subst (λ (b : Bool). Publishing c.args.register.now c.args.seat.now.me c.loop-r.seat.me
-    (unseen_count c.args.seen_out.now - unseen_count c.loop-r.seen_out) c.loop-r.seen_out
+    (not_quiescent c.args.seen_out.now - not_quiescent c.loop-r.seen_out) c.loop-r.seen_out
     (cond b (Filling 0) Seeing)) all i.publishing)

@@ -8,7 +8,7 @@ use Rattle.board_text.proofs.interpreters.interpret.Goals as goal
 pub returns-in_err-text-clause-wrote : goal.returns-in_err-text-clause-wrote
 returns-in_err-text-clause-wrote g c =
     let p = err_from_is_err_and c.from_residual.result c.from_residual.ensures.1 in
-    rw p.1 (writes-failed_input c.args.input.now c.read_within.new.input c.args.out.now.held c.in_err-text.field-0.0 p.0 c.args.limits (course_of_script g.I.Interpreter.opened g.I.Interpreter.parsed g.I.Interpreter.effect c.args.limits) p.2 c.in_err-text.ensures.fault)
+    rw p.1 (writes-failed_input c.args.input.now c.read_within.new.input c.args.out.now.contents c.in_err-text.field-0.0 p.0 c.args.limits (course_of_script g.I.Interpreter.opened g.I.Interpreter.parsed g.I.Interpreter.effect c.args.limits) p.2 c.in_err-text.ensures.fault)
 
 pub returns-clause-wrote : goal.returns-clause-wrote
 returns-clause-wrote g c = λ bytes is.

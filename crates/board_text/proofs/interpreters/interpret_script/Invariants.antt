@@ -1,5 +1,5 @@
 use Rattle.std.proofs.Common.{◌≡◌, ◌<◌, ◌+◌, ◌^◌, length}
-use Rattle.board_text.specs.Sinks.{GoesOn}
+use Rattle.board_text.specs.OutputStates.{IsSameOutput}
 use Rattle.board_text.specs.Scripts.{run_in, script_course}
 use Rattle.board_text.proofs.RunFacts.{WrittenTo}
 use Rattle.board_text.proofs.interpreters.interpret_script.Given as goal
@@ -7,10 +7,10 @@ use Rattle.board_text.proofs.interpreters.interpret_script.Given as goal
 -- of the course of all records, the course of those that are left is left
 abbrev pub invariant-records : goal.invariant-records
 invariant-records g l = record {
-  so_far : WrittenTo l.fn.out.held l.out.held
+  so_far : WrittenTo l.fn.out.contents l.out.contents
       (run_in (script_course (g.I.Interpreter.parsed l.fn.limits) g.I.Interpreter.effect l.fn.interpreter l.fn.first l.fn.script)) (run_in (script_course (g.I.Interpreter.parsed l.limits) g.I.Interpreter.effect l.interpreter l.number l.script));
   ended : (script_course (g.I.Interpreter.parsed l.fn.limits) g.I.Interpreter.effect l.fn.interpreter l.fn.first l.fn.script).end ≡ (script_course (g.I.Interpreter.parsed l.limits) g.I.Interpreter.effect l.interpreter l.number l.script).end;
-  continues : GoesOn l.fn.out l.out;
+  same_output : IsSameOutput l.fn.out l.out;
   numbers : l.number + length l.script < 2 ^ 32;
 }
 

@@ -1,5 +1,5 @@
-use Rattle.board_text.proofs.WordFacts.{one-word, word-back}
+use Rattle.majority_rule.proofs.Face.{majority-back, majority-word}
 use Rattle.board_text.proofs.laws.majority_law.Goals as goal
 
 pub returns : goal.returns
-returns c = record { read_back = word-back; no_other = one-word }
+returns c = record { read_back = majority-back; no_other = majority-word }

@@ -25,27 +25,27 @@ returns-in_err-next-clause-members c =
 
 pub returns-then-not-branch-clause-fault : goal.returns-then-not-branch-clause-fault
 returns-then-not-branch-clause-fault c =
-    let none : c.records.script ≡ [] = rw c.if-not-branch.true at c.in_ok-next.ensures.taken in
+    let none : c.records.script ≡ [] = rw c.if-not-branch.true at c.in_ok-next.ensures.read in
     rw c.at.ensures.same (c.records.invariant.same ∙ opening-ends c.records.members.items _ c.records.number c.records.script none)
 
 pub returns-then-not-branch-clause-members : goal.returns-then-not-branch-clause-members
 returns-then-not-branch-clause-members c =
-    let none : c.records.script ≡ [] = rw c.if-not-branch.true at c.in_ok-next.ensures.taken in
+    let none : c.records.script ≡ [] = rw c.if-not-branch.true at c.in_ok-next.ensures.read in
     rw c.at.ensures.same (sym (c.records.invariant.front ∙ before-ends c.records.members.items _ c.records.script none))
 
-pub returns-then-is_mark_row-clause-opened : goal.returns-then-is_mark_row-clause-opened
-returns-then-is_mark_row-clause-opened c =
-    let next : c.records.script ≡ fields_of c.next.new.row ∷ c.next.new.self = rw c.if-not-branch.false at c.in_ok-next.ensures.taken in
+pub returns-then-is_mark_row-clause-preamble : goal.returns-then-is_mark_row-clause-preamble
+returns-then-is_mark_row-clause-preamble c =
+    let next : c.records.script ≡ fields_of c.next.new.row ∷ c.next.new.self = rw c.if-not-branch.false at c.in_ok-next.ensures.read in
     c.records.invariant.same ∙ opening-mark c.records.members.items _ c.records.number c.records.script _ _ next (sym c.if-is_mark_row.ensures)
 
 pub returns-then-is_mark_row-clause-members : goal.returns-then-is_mark_row-clause-members
 returns-then-is_mark_row-clause-members c =
-    let next : c.records.script ≡ fields_of c.next.new.row ∷ c.next.new.self = rw c.if-not-branch.false at c.in_ok-next.ensures.taken in
+    let next : c.records.script ≡ fields_of c.next.new.row ∷ c.next.new.self = rw c.if-not-branch.false at c.in_ok-next.ensures.read in
     sym (c.records.invariant.front ∙ before-mark c.records.members.items _ c.records.script _ _ next (sym c.if-is_mark_row.ensures))
 
 pub returns-then-len-eq-MAX_MEMBERS-clause-fault : goal.returns-then-len-eq-MAX_MEMBERS-clause-fault
 returns-then-len-eq-MAX_MEMBERS-clause-fault c =
-    let next : c.records.script ≡ fields_of c.next.new.row ∷ c.next.new.self = rw c.if-not-branch.false at c.in_ok-next.ensures.taken in
+    let next : c.records.script ≡ fields_of c.next.new.row ∷ c.next.new.self = rw c.if-not-branch.false at c.in_ok-next.ensures.read in
     let long : c.len.result ≡ length c.records.members.items = search rules in
     let room : ℕ = MAX_MEMBERS - length c.records.members.items in
     rw c.at-then-len-eq-MAX_MEMBERS.ensures.same (c.records.invariant.same
@@ -53,7 +53,7 @@ returns-then-len-eq-MAX_MEMBERS-clause-fault c =
 
 pub returns-then-len-eq-MAX_MEMBERS-clause-members : goal.returns-then-len-eq-MAX_MEMBERS-clause-members
 returns-then-len-eq-MAX_MEMBERS-clause-members c =
-    let next : c.records.script ≡ fields_of c.next.new.row ∷ c.next.new.self = rw c.if-not-branch.false at c.in_ok-next.ensures.taken in
+    let next : c.records.script ≡ fields_of c.next.new.row ∷ c.next.new.self = rw c.if-not-branch.false at c.in_ok-next.ensures.read in
     let long : c.len.result ≡ length c.records.members.items = search rules in
     let room : ℕ = MAX_MEMBERS - length c.records.members.items in
     rw c.at-then-len-eq-MAX_MEMBERS.ensures.same (sym (c.records.invariant.front
@@ -61,7 +61,7 @@ returns-then-len-eq-MAX_MEMBERS-clause-members c =
 
 pub returns-in_default-clause-fault : goal.returns-in_default-clause-fault
 returns-in_default-clause-fault c =
-    let next : c.records.script ≡ fields_of c.next.new.row ∷ c.next.new.self = rw c.if-not-branch.false at c.in_ok-next.ensures.taken in
+    let next : c.records.script ≡ fields_of c.next.new.row ∷ c.next.new.self = rw c.if-not-branch.false at c.in_ok-next.ensures.read in
     let long : c.len.result ≡ length c.records.members.items = search rules in
     let not_full : length c.records.members.items ≢ MAX_MEMBERS = λ e. c.if-len-eq-MAX_MEMBERS.false (long ∙ e) in
     let room : ℕ = MAX_MEMBERS - length c.records.members.items in
@@ -70,7 +70,7 @@ returns-in_default-clause-fault c =
 
 pub returns-in_default-clause-members : goal.returns-in_default-clause-members
 returns-in_default-clause-members c =
-    let next : c.records.script ≡ fields_of c.next.new.row ∷ c.next.new.self = rw c.if-not-branch.false at c.in_ok-next.ensures.taken in
+    let next : c.records.script ≡ fields_of c.next.new.row ∷ c.next.new.self = rw c.if-not-branch.false at c.in_ok-next.ensures.read in
     let long : c.len.result ≡ length c.records.members.items = search rules in
     let not_full : length c.records.members.items ≢ MAX_MEMBERS = λ e. c.if-len-eq-MAX_MEMBERS.false (long ∙ e) in
     let room : ℕ = MAX_MEMBERS - length c.records.members.items in
@@ -84,7 +84,7 @@ returns-in_err-push-clause-members c =
 
 pub records-preserved : goal.records-preserved
 records-preserved c =
-    let next : c.records.script ≡ fields_of c.next.new.row ∷ c.next.new.self = rw c.if-not-branch.false at c.in_ok-next.ensures.taken in
+    let next : c.records.script ≡ fields_of c.next.new.row ∷ c.next.new.self = rw c.if-not-branch.false at c.in_ok-next.ensures.read in
     let fewer = ap length next in
     let long : c.len.result ≡ length c.records.members.items = search rules in
     let not_full : length c.records.members.items ≢ MAX_MEMBERS = λ e. c.if-len-eq-MAX_MEMBERS.false (long ∙ e) in

@@ -1,18 +1,18 @@
 use Rattle.std.proofs.Common.{arith}
-use Rattle.swing_walk.specs.Walks.{enough, position_after}
+use Rattle.swing_walk.specs.Walks.{wins_on, position_after}
 use Rattle.swing_walk.proofs.Counting.{pairs_room}
 use Rattle.swing_walk.proofs.Steps.{back_room}
-use Rattle.swing_walk.proofs.LargePairs.{partners_room}
+use Rattle.swing_walk.proofs.WinningPairs.{partners_room}
 use Rattle.swing_walk.proofs.Meeting.{one_left, one_step, Passed, pass}
 use Rattle.swing_walk.proofs.walking.pass_next.Goals as goal
 
-pub add_to-requires-clause-left_room : goal.add_to-requires-clause-left_room
-add_to-requires-clause-left_room g c =
-    omega (arith, c.pass-partners.ensures.partners, partners_room c.args.next.falls c.args.next c.args.route.now c.args.position, c.requires.stands.credited.rising_total, pairs_room (enough c.args.route.now) c.args.route.now.rising c.args.route.now.falling c.args.position.up c.args.route.now.rising_half.bound c.args.route.now.falling_half.bound)
+pub add_to-requires-clause-rising_room : goal.add_to-requires-clause-rising_room
+add_to-requires-clause-rising_room g c =
+    omega (arith, c.pass-partners.ensures.partners, partners_room c.args.next.falls c.args.next c.args.route.now c.args.position, c.requires.stands.credited.rising_total, pairs_room (wins_on c.args.route.now) c.args.route.now.rising c.args.route.now.falling c.args.position.up c.args.route.now.rising_half.bound c.args.route.now.falling_half.bound)
 
-pub add_to-requires-clause-right_room : goal.add_to-requires-clause-right_room
-add_to-requires-clause-right_room g c =
-    omega (arith, c.pass-partners.ensures.partners, partners_room c.args.next.falls c.args.next c.args.route.now c.args.position, c.requires.stands.credited.falling_total, back_room (enough c.args.route.now) c.args.route.now.rising c.args.route.now.falling c.args.position.rest c.args.route.now.rising_half.bound c.args.route.now.falling_half.bound)
+pub add_to-requires-clause-falling_room : goal.add_to-requires-clause-falling_room
+add_to-requires-clause-falling_room g c =
+    omega (arith, c.pass-partners.ensures.partners, partners_room c.args.next.falls c.args.next c.args.route.now c.args.position, c.requires.stands.credited.falling_total, back_room (wins_on c.args.route.now) c.args.route.now.rising c.args.route.now.falling c.args.position.rest c.args.route.now.rising_half.bound c.args.route.now.falling_half.bound)
 
 pub after-requires-clause-some : goal.after-requires-clause-some
 after-requires-clause-some g c = one_left c.args.next.falls c.args.next c.args.route.now c.args.position c.requires.next
@@ -26,10 +26,10 @@ returns g c =
       is_next = c.requires.next;
       credited = c.requires.stands.credited;
       partners = c.pass-partners.ensures.partners;
-      rising_total = c.add_to.ensures.left_total;
-      rising_marked = λ slot. rw c.mask.ensures.mask at (c.add_to.ensures.left_marked slot);
-      falling_total = c.add_to.ensures.right_total;
-      falling_marked = λ slot. rw c.mask.ensures.mask at (c.add_to.ensures.right_marked slot);
+      rising_total = c.add_to.ensures.rising_total;
+      rising_marked = λ slot. rw c.mask.ensures.mask at (c.add_to.ensures.rising_marked slot);
+      falling_total = c.add_to.ensures.falling_total;
+      falling_marked = λ slot. rw c.mask.ensures.mask at (c.add_to.ensures.falling_marked slot);
     } in
     rw c.after.ensures.after (record {
       next = one_step c.args.next.falls c.args.position.up c.args.position.rest some;

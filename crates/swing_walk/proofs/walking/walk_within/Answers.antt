@@ -1,8 +1,8 @@
 use Rattle.std.proofs.Common.{◌≡◌, ◌≤◌, ℕ, length, arith}
 use Rattle.swing_walk.proofs.walking.walk_within.Goals as goal
 
-pub returns-clause-apart : goal.returns-clause-apart
-returns-clause-apart g c =
+pub returns-clause-stand : goal.returns-clause-stand
+returns-clause-stand g c =
     let inv = c.loop-walked.invariant in
     let steps : ℕ = c.steps_within-steps.result in
     let end : c.loop-walked.walked ≡ steps = omega (arith, c.loop-walked.auto.walked-end, c.loop-walked-test.false) in

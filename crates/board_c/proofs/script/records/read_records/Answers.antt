@@ -14,12 +14,12 @@ records-init c = record {
 
 pub returns-then-not-branch-clause-items : goal.returns-then-not-branch-clause-items
 returns-then-not-branch-clause-items c =
-    let none : c.records.script ≡ [] = rw c.if-not-branch.true at c.in_ok-next.ensures.taken in
+    let none : c.records.script ≡ [] = rw c.if-not-branch.true at c.in_ok-next.ensures.read in
     items-end c.args.text.now c.args.limits c.args.first c.args.script.now c.records.number c.records.at c.records.script c.args.items.now c.records.items c.records.count c.records.invariant.so none
 
 pub returns-then-not-branch-clause-end : goal.returns-then-not-branch-clause-end
 returns-then-not-branch-clause-end c =
-    let none : c.records.script ≡ [] = rw c.if-not-branch.true at c.in_ok-next.ensures.taken in
+    let none : c.records.script ≡ [] = rw c.if-not-branch.true at c.in_ok-next.ensures.read in
     fault-end c.args.text.now c.args.limits c.args.first c.args.script.now c.records.number c.records.at c.records.script c.args.items.now c.records.items c.records.count c.records.invariant.so none
 
 pub returns-in_err-next-clause-items : goal.returns-in_err-next-clause-items
@@ -36,19 +36,19 @@ returns-in_err-next-clause-end c =
 
 pub returns-in-Err-clause-items : goal.returns-in-Err-clause-items
 returns-in-Err-clause-items c =
-    let next : c.records.script ≡ fields_of c.next.new.row ∷ c.next.new.self = rw c.if-not-branch.false at c.in_ok-next.ensures.taken in
+    let next : c.records.script ≡ fields_of c.next.new.row ∷ c.next.new.self = rw c.if-not-branch.false at c.in_ok-next.ensures.read in
     items-passed c.args.text.now c.args.limits c.args.first c.args.script.now c.records.number c.records.at c.records.script c.args.items.now c.records.items c.records.count c.records.invariant.so _ _ next
     c.in-Err.why c.at.result c.in-Err.ensures.same c.at.ensures.same
 
 pub returns-in-Err-clause-end : goal.returns-in-Err-clause-end
 returns-in-Err-clause-end c =
-    let next : c.records.script ≡ fields_of c.next.new.row ∷ c.next.new.self = rw c.if-not-branch.false at c.in_ok-next.ensures.taken in
+    let next : c.records.script ≡ fields_of c.next.new.row ∷ c.next.new.self = rw c.if-not-branch.false at c.in_ok-next.ensures.read in
     end-passed c.args.text.now c.args.limits c.args.first c.args.script.now c.records.number c.records.at c.records.script c.args.items.now c.records.items c.records.count c.records.invariant.so _ _ next
     c.in-Err.why c.at.result c.in-Err.ensures.same c.at.ensures.same
 
 pub records-preserved : goal.records-preserved
 records-preserved c =
-    let next : c.records.script ≡ fields_of c.next.new.row ∷ c.next.new.self = rw c.if-not-branch.false at c.in_ok-next.ensures.taken in
+    let next : c.records.script ≡ fields_of c.next.new.row ∷ c.next.new.self = rw c.if-not-branch.false at c.in_ok-next.ensures.read in
     let fewer = ap length next in
     record {
       so = read-item c.args.text.now c.args.limits c.args.first c.args.script.now c.records.number c.records.at c.records.script c.args.items.now c.records.items c.records.count c.records.invariant.so _ _ next

@@ -1,8 +1,8 @@
 use Rattle.board_text.proofs.ScriptFacts.{takes-first}
 use Rattle.board_text.proofs.script.Script.next.Goals as goal
 
-pub returns-in-Ok-clause-taken : goal.returns-in-Ok-clause-taken
-returns-in-Ok-clause-taken c =
+pub returns-in-Ok-clause-read : goal.returns-in-Ok-clause-read
+returns-in-Ok-clause-read c =
     let inv = c.self.invariant in
     let said = c.in-Ok.ensures in
     rw (← c.self.view_is) (takes-first c.self.inside.reader c.read_byte_record.new.self c.in-Ok.found _

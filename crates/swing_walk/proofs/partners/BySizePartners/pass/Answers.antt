@@ -19,4 +19,4 @@ returns-clause-partners c =
 pub returns-clause-counted : goal.returns-clause-counted
 returns-clause-counted c =
     passed c.args.next.falls c.args.next c.args.route.now c.args._position c.args.self.now (record { passed = c.count_on.new.sides; fewer = c.args.self.now.fewer }) c.mask-mask.result c.requires.counted c.requires.next c.requires.rest
-    (record { is_mask = c.mask-mask.ensures.mask; fewer = refl; rising = c.count_on.ensures.left; falling = c.count_on.ensures.right })
+    (record { is_mask = c.mask-mask.ensures.mask; fewer = refl; rising = c.count_on.ensures.rising; falling = c.count_on.ensures.falling })

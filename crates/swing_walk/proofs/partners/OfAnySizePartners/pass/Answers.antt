@@ -1,5 +1,5 @@
 use Rattle.std.proofs.Common.{◌∙◌}
-use Rattle.swing_walk.proofs.LargePairs.{any_partners}
+use Rattle.swing_walk.proofs.WinningPairs.{any_partners}
 use Rattle.swing_walk.proofs.partners.OfAnySizePartners.pass.Goals as goal
 
 pub returns-clause-partners : goal.returns-clause-partners

@@ -1,4 +1,4 @@
--- Pairs that have votes and chairs enough.
+-- Pairs that win: they have enough votes and enough chairs.
 use Rattle.std.proofs.Common.{◌≡◌, ℕ, ◌+◌, ◌-◌, ◌*◌, ◌≤◌, Bool, true, false, cond, List, length, drop, get_or, arith, refl, ap, ◌∙◌}
 use Rattle.std.specs.Prelude.{◌&&◌, nat_le, count_ones}
 use Rattle.std.specs.Int.{bit_at}
@@ -10,7 +10,7 @@ use Rattle.std.proofs.lemmas.List.Sums.{count_by-le-length}
 use Rattle.half_sums.specs.declared.entry.Entry.{Entry}
 use Rattle.half_sums.specs.Groups.{size_of}
 use Rattle.half_sums.specs.declared.lists.TheConstants.{ROOM}
-use Rattle.swing_walk.specs.Pairs.{pairs_where, reaches, has_slot, is_large, is_enough, with_slot}
+use Rattle.swing_walk.specs.Pairs.{pairs_where, reaches, has_slot, has_size, wins_as_pair, with_slot}
 use Rattle.swing_walk.specs.Sizes.{partners_next, partners_of}
 use Rattle.swing_walk.specs.declared.positions.Next.{Next}
 use Rattle.swing_walk.specs.declared.positions.Position.{Position}
@@ -18,9 +18,9 @@ use Rattle.swing_walk.specs.declared.positions.Route.{Route}
 use Rattle.swing_walk.proofs.Counting.{Splits, count_none, count_agree, count_all, count_split, bit_times}
 use Rattle.swing_walk.proofs.Steps.{pairs_swap, pairs_agree, turned}
 
--- among the entries that reach the quota with l, those with which it has chairs enough
-pub count_enough : (quota least at : ℕ) (l : Entry) (entries : List Entry) → Splits quota l.sum at entries → count_by (is_enough quota least l) entries ≡ partners_of least l.mask (drop at entries)
-count_enough quota least at l entries s = count_split quota at l entries (is_large least l) s
+-- the entries with which l wins: of those that reach the quota with it, those with which it has enough chairs
+pub count_winning : (quota least at : ℕ) (l : Entry) (entries : List Entry) → Splits quota l.sum at entries → count_by (wins_as_pair quota least l) entries ≡ partners_of least l.mask (drop at entries)
+count_winning quota least at l entries s = count_split quota at l entries (has_size least l) s
 
 -- where no size is asked for
 partners-any : (least mask : ℕ) (entries : List Entry) → least ≡ 0 → partners_of least mask entries ≡ length entries
@@ -57,13 +57,13 @@ pub count_slot : (p : Entry → Bool) (slot : ℕ) (l : Entry) (entries : List E
 count_slot p slot l entries = count_where p (has_slot slot l) entries ∙ bit_times (bit_at l.mask slot) (count_by p entries) (bit_at-lt l.mask slot)
 
 -- seen from the right entry
-turned_enough : (quota least : ℕ) (a b : Entry) → is_enough quota least b a ≡ is_enough quota least a b
-turned_enough quota least a b =
+turned_wins : (quota least : ℕ) (a b : Entry) → wins_as_pair quota least b a ≡ wins_as_pair quota least a b
+turned_wins quota least a b =
     let swap : size_of b + size_of a ≡ size_of a + size_of b = omega arith in
-    ap (λ t. t && is_large least b a) (turned quota a b) ∙ ap (λ n. reaches quota a b && nat_le least n) swap
+    ap (λ t. t && has_size least b a) (turned quota a b) ∙ ap (λ n. reaches quota a b && nat_le least n) swap
 
 -- the pairs with a slot, seen from the right entries
-pub turned_marks : (quota least slot : ℕ) (left right : List Entry) → pairs_where (with_slot slot (is_enough quota least)) right left ≡ pairs_where (λ l r. is_enough quota least l r && has_slot slot r) left right
+pub turned_marks : (quota least slot : ℕ) (left right : List Entry) → pairs_where (with_slot slot (wins_as_pair quota least)) right left ≡ pairs_where (λ l r. wins_as_pair quota least l r && has_slot slot r) left right
 turned_marks quota least slot left right =
-    let test : Entry → Entry → Bool = with_slot slot (is_enough quota least) in
-    pairs_swap test right left ∙ pairs_agree (λ a b. test b a) (λ a b. is_enough quota least a b && has_slot slot b) left right (λ a b. ap (λ t. t && has_slot slot b) (turned_enough quota least a b))
+    let test : Entry → Entry → Bool = with_slot slot (wins_as_pair quota least) in
+    pairs_swap test right left ∙ pairs_agree (λ a b. test b a) (λ a b. wins_as_pair quota least a b && has_slot slot b) left right (λ a b. ap (λ t. t && has_slot slot b) (turned_wins quota least a b))

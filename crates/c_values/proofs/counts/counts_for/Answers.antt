@@ -2,7 +2,7 @@ use Rattle.std.proofs.Common.{◌∙◌}
 use Rattle.council_core.specs.Sheets.{open_chairs}
 use Rattle.majority_rule.specs.Winning.{rule_of}
 use Rattle.c_values.proofs.RowLemmas.{shown_rows}
-use Rattle.c_values.proofs.counts.counts_of.Goals as goal
+use Rattle.c_values.proofs.counts.counts_for.Goals as goal
 
 pub returns : goal.returns
 returns c m words are = record {
@@ -12,5 +12,5 @@ returns c m words are = record {
   open_count = c.from-2.ensures ∙ are.open_count;
   omega = are.omega;
   all = are.all;
-  row_each = c.rows_of.ensures ∙ shown_rows (rule_of m words) (open_chairs words) _ (c.as_slice.ensures.value ∙ are.row_each);
+  row_each = c.rows_for.ensures ∙ shown_rows (rule_of m words) (open_chairs words) _ (c.as_slice.ensures.value ∙ are.row_each);
 }

@@ -1,7 +1,7 @@
 use Rattle.std.proofs.lemmas.Result.{err_from_is_err_and}
 use Rattle.board_text.specs.Text.{members_in}
 use Rattle.board_text.proofs.MemberFacts.{none-broken}
-use Rattle.board_text.proofs.opening.read_opening.Goals as goal
+use Rattle.board_text.proofs.opening.read_preamble.Goals as goal
 
 pub returns-in_err-next-clause-members : goal.returns-in_err-next-clause-members
 returns-in_err-next-clause-members c =
