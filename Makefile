@@ -58,9 +58,10 @@ board: $O/board  ## the program, out/board, proved with the crates that it uses:
 $O/board: $$(call sources,$$(call whole,board))
 	@tools/prove $(call whole,board)
 portable: portable/out/board  ## the program from portable/board.c, portable/out/board: needs no rt, proves nothing
+CFLAGS ?= -O2 -fstack-protector-strong
 portable/out/board: portable/board.c portable/board.h
 	@mkdir -p $(@D)
-	$(CC) -O2 -fstack-protector-strong -DBOARD_MAIN $< -o $@.$$$$ && mv $@.$$$$ $@
+	$(CC) $(CPPFLAGS) $(CFLAGS) $(LDFLAGS) -DBOARD_MAIN $< -o $@.$$$$ && mv $@.$$$$ $@
 $O/proved: $$(call sources,$(CRATES)) tools/prove
 	@touch $@.begun
 	tools/prove $(CRATES) | tee $@.new
@@ -131,15 +132,17 @@ page: $(MODULE)  ## the page, page/out/board.html
 release: $O/proved module page $(modules)  ## a release of what the packages' parts have made, too: two archives in out
 	@tools/release/build
 PREFIX    ?= /usr/local
+LIBDIR    ?= $(PREFIX)/lib
 INSTALLED  = $(DESTDIR)$(PREFIX)
-install: $(if $(KIT),board $(modules),$(PROGRAM))  ## program, manual and library: DESTDIR, PREFIX
+install: $(if $(KIT),board $(modules),$(PROGRAM))  ## program, manual and library: DESTDIR, PREFIX, LIBDIR
 	@umask 022 && mkdir -p "$(INSTALLED)"/bin "$(INSTALLED)"/share/man/man1
 	cp $(BOARD) "$(INSTALLED)"/bin
-	tools/release/library "$(INSTALLED)" $(if $(KIT),,portable/board.c)
+	CC="$(CC)" CPPFLAGS="$(CPPFLAGS)" CFLAGS="$(CFLAGS)" LDFLAGS="$(LDFLAGS)" \
+	  tools/release/library "$(INSTALLED)" "$(DESTDIR)$(LIBDIR)" $(if $(KIT),,portable/board.c)
 	tools/release/manual $(BOARD) "$(INSTALLED)"/share/man/man1
 uninstall:  ## removes what `make install` put there
-	@cd "$(INSTALLED)"
-	rm -rf bin/board include/board.h lib/{libboard.*,pkgconfig/board.pc,cmake/board} share/man/man1/board{,-*}.1
+	@rm -rf "$(INSTALLED)"/{bin/board,include/board.h,share/man/man1/board{,-*}.1} \
+	  "$(DESTDIR)$(LIBDIR)"/{libboard.*,pkgconfig/board.pc,cmake/board}
 
 # The parts of the tests. Each prints a line for each test; tools/part counts them, prints 'N passed, M failed', and
 # keeps the output in out/said.

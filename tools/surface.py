@@ -157,7 +157,7 @@ ROWS = [
     Row("chairs with their members", "chairs", ""),
     Row("names of chairs", "chair_names", "", {"Rust": "`chair_names`, `chair_name`"}),
     Row("accepted commands", "journal", "`board_register_command_at`, `board_command_text`"),
-    Row("a copy", "what_if copy", "`board_register_copy`", {"Rust": "`try_clone`"}),
+    Row("a copy", "copy", "`board_register_copy`", {"JavaScript": "`copy`, `whatIf`", "Rust": "`try_clone`"}),
     Row("back to a number of commands", "undo", "`board_register_undo`", {"Rust": "`undo`, `undo_to`"}),
     Row(
         "a script saved, and read",

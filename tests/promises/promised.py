@@ -4,7 +4,7 @@
     tests/promises/promised.py         writes the list again
 
 A line `- NAME` promises the worked case NAME of tests/cases, too. A promise that is there with another sum, or that has
-gone, is written only if the second number of the version has gone up since, and from 1.0 on the first: README.md says
+gone, is written only if the first number of the version is another than that of the version before: README.md says
 why."""
 from __future__ import annotations
 
@@ -45,15 +45,13 @@ def case_sum(it: Case) -> str:
     return sum_of(repr((it.words, it.given, it.printed, it.complained, it.status)).encode())
 
 
-def version() -> str:
-    """The newest version of CHANGELOG.md."""
-    return str(re.findall(r"^## ([0-9.]+)", (TOP / "CHANGELOG.md").read_text(), re.MULTILINE)[0])
+def versions() -> list[str]:
+    """The versions of CHANGELOG.md, the newest first."""
+    return re.findall(r"^## ([0-9.]+)", (TOP / "CHANGELOG.md").read_text(), re.MULTILINE)
 
 
-def rank(of: str) -> tuple[int, ...]:
-    """The numbers of a version that go up where a promise changes: the first, and the second before 1.0."""
-    first, second, *_ = map(int, of.split("."))
-    return (first, 0 if first else second)
+def first(version: str) -> int:
+    return int(version.partition(".")[0])
 
 
 def written() -> dict[str, Promised]:
@@ -83,8 +81,8 @@ def broken() -> dict[str, str]:
 
 
 def main() -> int:
-    old, now, sums = written(), version(), found()
-    kept = {name: why for name, why in broken().items() if old[name].sum and rank(now) <= rank(old[name].since)}
+    old, sums, (now, before, *_) = written(), found(), versions()
+    kept = {name: why for name, why in broken().items() if old[name].sum and first(now) == first(before)}
     for name, why in kept.items():
         print(f"{name} {why}, and is promised since {old[name].since}: that asks for another version than {now}")
     if kept:

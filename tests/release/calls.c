@@ -1,10 +1,11 @@
 /* The calls of board.h that count boards: against a count over all coalitions of small boards, on input that is
- * refused, over a room with other content, on a thread with 96 KB of stack, and on threads at once. Ends in a line 'N
- * passed, M failed', and in that status. */
+ * refused, over a room with other content, on a thread with 96 KB of stack, or the least that the system gives one, and
+ * on threads at once. Ends in a line 'N passed, M failed', and in that status. */
 #include "board.h"
 #include <pthread.h>
 #include <stdio.h>
 #include <string.h>
+#include <unistd.h>
 
 /* The set of all chairs. */
 #define ALL UINT64_MAX
@@ -239,7 +240,8 @@ static void *all_calls(void *nothing) {
 int main(void) {
     pthread_attr_t attributes;
     pthread_t thread;
-    if (pthread_attr_init(&attributes) || pthread_attr_setstacksize(&attributes, STACK)) return 1;
+    size_t least = (size_t)sysconf(_SC_THREAD_STACK_MIN), stack = STACK < least ? least : STACK;
+    if (pthread_attr_init(&attributes) || pthread_attr_setstacksize(&attributes, stack)) return 1;
     if (pthread_create(&thread, &attributes, all_calls, NULL) || pthread_join(thread, NULL)) return 1;
     count_in_threads();
     printf("%d passed, %d failed\n", passed, failed);

@@ -69,12 +69,6 @@ def version_of(room: Path) -> str:
     return (room / "VERSION").read_text().split()[1]
 
 
-def numbers_of(room: Path) -> str:
-    """The numbers of the version in the soname: the first, and before 1.0 the first two."""
-    first, second, _ = version_of(room).split(".")
-    return first if int(first) else f"{first}.{second}"
-
-
 def test_names(room: Path) -> None:
     # Catches: a version that isn't VERSION's, and a number whose name, in either library or in the header, isn't
     # that of docs/FORMATS.md. Two results have no name: 0, and 255 of the C file alone.
@@ -93,9 +87,9 @@ def test_names(room: Path) -> None:
 
 
 def test_shared(room: Path) -> None:
-    # Catches: a shared library whose name has other numbers than those that change where a call does, or that exports
-    # more than the calls of board.h.
-    name = f"libboard.so.{numbers_of(room)}"
+    # Catches: a shared library whose name has another number than the one that changes where a call does, or that
+    # exports more than the calls of board.h.
+    name = f"libboard.so.{version_of(room).split('.')[0]}"
     link = room / "lib" / "libboard.so"
     assert link.is_symlink() and str(link.readlink()) == name, "libboard.so is no link to the shared library"
     output = ran(["readelf", "--dynamic", "--wide", f"lib/{name}"], room)

@@ -18,7 +18,7 @@ const COMMAND = 24;
 const ROOM = 1048576;
 const CHAIRS = 32;
 const READS = 300;
-const WHAT_IFS = 10000;
+const COPIES = 10000;
 const SIDE = 20;
 const TURNS = 200;
 const BEGUN = "member,votes\nAAA,1\nscript\n";
@@ -180,21 +180,21 @@ function exhausted({ board_reserve: reserve }) {
   return held;
 }
 
-/** Calls after which memory is as it was: what-ifs, and refused copies and starts. */
+/** Calls after which memory is as it was: copies, and refused copies and starts. */
 function memoryIsUsedAgain(register) {
   const [code] = Object.keys(register.members);
   const entries = Array.from({ length: 100 }, () => [code, 1]);
-  const whatIf = () => {
-    const copy = register.whatIf();
+  const ask = () => {
+    const copy = register.copy();
     copy.setVotes(code, 7);
     copy.indices("half");
     copy.free();
     assert.equal(refusal(() => copy.copy()), NUMBER.NoRegister);
     assert.equal(refusal(() => new Register(entries)), NUMBER.DuplicateMember);
   };
-  whatIf();
+  ask();
   const length = memoryOf(sharedInstance());
-  for (let times = 0; times < WHAT_IFS; times++) whatIf();
+  for (let times = 0; times < COPIES; times++) ask();
   assert.equal(memoryOf(sharedInstance()), length);
 }
 

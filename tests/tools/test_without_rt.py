@@ -70,15 +70,22 @@ def test_make_without_a_goal(clone: Path) -> None:
 
 
 def test_install(clone: Path, tmp_path: Path) -> None:
-    # Catches: an installation without the toolchain over which no program is compiled, and a file that is left behind.
-    place = tmp_path / "opt" / "board"
-    to = [f"DESTDIR={tmp_path}", "PREFIX=/opt/board"]
+    # Catches: an installation without the toolchain over which no program is compiled, words for the compiler that are
+    # left out, and a file that is left behind.
+    place, lib = tmp_path / "opt" / "board", tmp_path / "opt" / "board" / "lib" / "here"
+    cc = script(tmp_path / "bin" / "cc", f'echo "$@" >>"{tmp_path}/words"\nexec cc "$@"')
+    to = [f"DESTDIR={tmp_path}", "PREFIX=/opt/board", "LIBDIR=/opt/board/lib/here", f"CC={cc}"]
+    to += ["CPPFLAGS=-DTRIED=1 -DAGAIN", "CFLAGS=-O1", "LDFLAGS=-Wl,-O1"]
     assert (done := ran(clone, "make", "install", *to)).status == 0, done.complaint
     assert ran(place, "bin/board", "replay", given=EXAMPLE).output.endswith(b"\nchair,3,1,1,1/4,1/5,1/3,1/5\n")
-    words = ["--define-variable=prefix=" + str(place), "--cflags", "--libs", "board"]
-    flags = ran(place, "pkg-config", *words, PKG_CONFIG_PATH=f"{place}/lib/pkgconfig").output.decode().split()
+    program, library, shared = ({*it.split()} for it in (tmp_path / "words").read_text().splitlines())
+    assert all("-O1" in it for it in (program, library, shared))
+    assert all({"-DTRIED=1", "-DAGAIN"} <= it for it in (program, library))
+    assert all("-Wl,-O1" in it for it in (program, shared))
+    words = ["--cflags", "--libs", "board"]
+    flags = ran(place, "pkg-config", *words, PKG_CONFIG_PATH=f"{lib}/pkgconfig").output.decode().split()
     example = str(TOP / "examples" / "embed" / "three_chairs.c")
-    made = ran(place, "cc", example, *flags, f"-Wl,-rpath,{place}/lib", "-o", str(tmp_path / "three"))
+    made = ran(place, "cc", example, *flags, f"-Wl,-rpath,{lib}", "-o", str(tmp_path / "three"))
     assert ran(tmp_path, "./three").output.startswith(b"51 votes win, 3 of 8 coalitions\n"), made.complaint
     assert b"the exact voting power" in (place / "share" / "man" / "man1" / "board.1").read_bytes()
     ran(clone, "make", "uninstall", *to)

@@ -1,19 +1,13 @@
-# Which versions of the library this one can stand for: those with the same first number, before 1.0 with the same first
-# two, that aren't newer.
+# Which versions of the library this one can stand for: those with the same first number that aren't newer.
 set(PACKAGE_VERSION "@version@")
 set(PACKAGE_VERSION_COMPATIBLE FALSE)
 set(PACKAGE_VERSION_EXACT FALSE)
-set(_board_asked "${PACKAGE_FIND_VERSION_MAJOR}")
-if("@numbers@" MATCHES "[.]" AND PACKAGE_FIND_VERSION_COUNT GREATER 1)
-  set(_board_asked "${PACKAGE_FIND_VERSION_MAJOR}[.]${PACKAGE_FIND_VERSION_MINOR}")
-endif()
-if("@numbers@." MATCHES "^${_board_asked}[.]" AND NOT PACKAGE_FIND_VERSION VERSION_GREATER PACKAGE_VERSION)
+if("${PACKAGE_FIND_VERSION_MAJOR}" STREQUAL "@number@" AND NOT PACKAGE_FIND_VERSION VERSION_GREATER PACKAGE_VERSION)
   set(PACKAGE_VERSION_COMPATIBLE TRUE)
 endif()
 if(PACKAGE_FIND_VERSION VERSION_EQUAL PACKAGE_VERSION)
   set(PACKAGE_VERSION_EXACT TRUE)
 endif()
-unset(_board_asked)
 # The library is for processors with addresses of 64 bits.
 if(CMAKE_SIZEOF_VOID_P AND NOT CMAKE_SIZEOF_VOID_P EQUAL 8)
   set(PACKAGE_VERSION "${PACKAGE_VERSION} (64-bit)")

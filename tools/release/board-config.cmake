@@ -1,14 +1,15 @@
-# The library for C, wherever the release is unpacked: find_package(board @numbers@ REQUIRED), with the release's folder
+# The library for C, wherever the release is unpacked: find_package(board @number@ REQUIRED), with the release's folder
 # in CMAKE_PREFIX_PATH.
 #
 # Then target_link_libraries(PROGRAM board::board) compiles and links with the library: the static one, if
 # find_package asks for COMPONENTS static, else the shared one. board::static and board::shared are these two by name.
 cmake_policy(PUSH)
 cmake_policy(VERSION 3.5)
-get_filename_component(_board_top "${CMAKE_CURRENT_LIST_DIR}/../../.." ABSOLUTE)
+get_filename_component(_board_lib "${CMAKE_CURRENT_LIST_DIR}/../.." ABSOLUTE)
+get_filename_component(_board_top "${_board_lib}/@up@" ABSOLUTE)
 
-set(_board_static "${_board_top}/lib/libboard.a")
-set(_board_shared "${_board_top}/lib/libboard.so.@numbers@")
+set(_board_static "${_board_lib}/libboard.a")
+set(_board_shared "${_board_lib}/libboard.so.@number@")
 set(board_static_FOUND TRUE)
 set(board_shared_FOUND TRUE)
 if(NOT TARGET board::static)
@@ -22,7 +23,7 @@ if(NOT TARGET board::shared)
   add_library(board::shared SHARED IMPORTED)
   set_target_properties(board::shared PROPERTIES
     IMPORTED_LOCATION "${_board_shared}"
-    IMPORTED_SONAME "libboard.so.@numbers@"
+    IMPORTED_SONAME "libboard.so.@number@"
     INTERFACE_INCLUDE_DIRECTORIES "${_board_top}/include")
 endif()
 
@@ -42,6 +43,7 @@ foreach(_board_component IN LISTS board_FIND_COMPONENTS)
   endif()
 endforeach()
 unset(_board_component)
+unset(_board_lib)
 unset(_board_shared)
 unset(_board_static)
 unset(_board_top)

@@ -1,7 +1,7 @@
 /** The names, limits and sentences of the library. Made by tools/made from the sources: do not edit. */
 
 /** The version of the package and of its module. */
-export const VERSION = "0.11.0";
+export const VERSION = "1.0.0";
 export const CHAIRS = 32;
 export const MEMBERS = 256;
 export const COMMANDS = 1_000_000;

@@ -434,23 +434,20 @@ export class Register {
     return `${lines.join("\n")}\n`;
   }
 
-  /** A copy, which changes independently: for a question, or to keep. */
+  /** A copy, which changes independently. */
   copy(): Register {
     return registerOf(this.#handle.copy(this.accepted), this.#names.first(this.accepted));
   }
 
   /**
-   * A copy for a question. With a function, what it answers of the copy, which is freed when it ends, so that thousands
-   * of questions take the memory of one. Without one it is the same as `copy`.
+   * What a function answers of a copy, which is freed when it ends, so that thousands of questions take the memory of
+   * one.
    *
    * @example
    * register.whatIf((copy) => (copy.open(4), copy.indicesOfAll().quorum.leastSize));
    */
-  whatIf(): Register;
-  whatIf<Answer>(ask: (copy: Register) => Answer): Answer;
-  whatIf<Answer>(ask?: (copy: Register) => Answer): Register | Answer {
+  whatIf<Answer>(ask: (copy: Register) => Answer): Answer {
     const copy = this.copy();
-    if (ask === undefined) return copy;
     try {
       return ask(copy);
     } finally {

@@ -162,7 +162,11 @@ function parsed() {
 function main(): number {
   const { values, positionals } = parsed();
   if (values.help || values.version) {
-    print(values.help ? HELP : `voting-board ${VERSION}\n`);
+    try {
+      print(values.help ? HELP : `voting-board ${VERSION}\n`);
+    } catch {
+      // That help can't be written is no fault, as with `board`.
+    }
     return ENDED;
   }
   const [command, path, ...others] = positionals;

@@ -34,7 +34,7 @@ const CHANGES = {
 };
 const OTHERS = {
   copy: (it) => it.copy(),
-  keep: (it) => it.whatIf(),
+  keep: (it) => it.copy(),
   save: (it) => Register.fromScript(it.script(), { names: it.chairNames }),
 };
 

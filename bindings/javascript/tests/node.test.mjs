@@ -93,6 +93,7 @@ test("thousands of questions take the memory of one", () => {
   const why = thrown(() => register.whatIf((copy) => (kept = copy).close(1)));
   equal(why.code, "ChairNotOpen");
   equal(thrown(() => kept.accepted).code, "NoRegister");
+  match(wrongType(() => register.whatIf()), / is not a function$/);
   equal(register.accepted, 0);
 });
 
@@ -189,14 +190,14 @@ test("after a call failed in the module, its registers say so, and others go on"
   equal(new Register({ CCC: 5 }).setVotes("CCC", 6), 1);
 });
 
-test("10,000 what-ifs and 1,000 replays take no more memory", () => {
+test("10,000 copies and 1,000 replays take no more memory", () => {
   const code = `import { Register, replay, replayText } from "voting-board";
     const register = new Register(
       Array.from({ length: 190 }, (_, at) => [String.fromCharCode(65 + at / 26, 65 + at % 26, 65), at]),
     );
     const text = register.script() + "open,1\\npublish\\n" + "read,1,half\\n".repeat(9);
     const turn = () => {
-      const copy = register.whatIf();
+      const copy = register.copy();
       copy.setVotes("AAA", 7);
       copy.free();
     };

@@ -67,6 +67,9 @@ test("help and the version", () => {
   deepEqual([status, reason], [0, ""]);
   match(output, /Usage: voting-board replay \[--readers N\] \[--journal N\] \[FILE\]/);
   deepEqual(ran(["--version"]), [0, `voting-board ${VERSION}\n`, ""]);
+  const full = openSync("/dev/full", "w");
+  for (const word of ["--help", "--version"]) deepEqual(ran([word], "", ["pipe", full, "pipe"]), [0, null, ""]);
+  closeSync(full);
 });
 
 // What the program says at its end: the most memory that it had, in KiB.

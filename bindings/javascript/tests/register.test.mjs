@@ -341,7 +341,7 @@ test("a copy changes on its own, and undo goes back", () => {
   const register = threeChairs();
   register.publish();
   const before = shownOf(register);
-  const copy = register.whatIf();
+  const copy = register.copy();
   deepEqual(shownOf(copy), before);
   copy.move("BBB", 1);
   copy.open(4);

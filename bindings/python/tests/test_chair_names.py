@@ -42,7 +42,7 @@ CHANGES: dict[str, Callable[[Register, str], object]] = {
     "undo": lambda it, given: it.undo(int(given)),
 }
 OTHERS: dict[str, Callable[[Register], Register]] = {
-    "copy": lambda it: it.what_if(),
+    "copy": lambda it: it.copy(),
     "save": lambda it: Register.from_script(it.script(), names=it.chair_names),
     "keep": lambda it: kept(it),
 }

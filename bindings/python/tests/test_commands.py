@@ -47,6 +47,17 @@ def arguments() -> list[str]:
     return [f"--scenario={it}" for it in SCENARIOS] + [f"--sweep={it}" for it in SWEEPS]
 
 
+@pytest.mark.parametrize("word", ["--help", "--version"])
+@pytest.mark.parametrize("command", ["study", "figures", "recount"])
+def test_help(command: str, word: str) -> None:
+    # Catches: a status that isn't 0, where help or the version is written and where it can't be.
+    assert good(command, word)[0]
+    with open("/dev/full", "wb") as full:
+        code = [sys.executable, "-m", f"voting_board.{command}_command", word]
+        done = subprocess.run(code, stdout=full, stderr=subprocess.PIPE)
+    assert (done.returncode, done.stderr) == (0, b"")
+
+
 def test_no_terminal_sequence(tmp_path: Path) -> None:
     # Catches: a name or a label by which a terminal is cleared, or shows another text than was printed.
     table = tmp_path / "members.csv"

@@ -162,7 +162,7 @@ def test_out_of_memory() -> None:
         script = register.script()
         run = replay(script)
         limit(1 << 20)
-        print(fails(register.what_if), register.undo(499_999))
+        print(fails(register.copy), register.undo(499_999))
         print(fails(lambda: register.submit("open,2\\nclose,2\\n" * 20_000)))
         print(fails(lambda: replay_text(script)), fails(lambda: replay(script)), fails(lambda: run.register()))
         limit(None)
@@ -183,7 +183,7 @@ def test_registers_are_freed() -> None:
         register.submit("open,1\\nclose,1\\n" * 20_000)
         size = lambda: int(Path("/proc/self/statm").read_text().split()[1])
         for at in range(300):
-            register.what_if().undo(30_000)
+            register.copy().undo(30_000)
             if at == 50:
                 gc.collect()
                 before = size()

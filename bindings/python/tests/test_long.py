@@ -31,7 +31,7 @@ def test_a_million_commands(full: Register) -> None:
     with pytest.raises(Refused) as caught:
         full.open(1)
     assert caught.value.name == "JournalFull" and full.accepted == MILLION
-    other = full.what_if()
+    other = full.copy()
     assert other.undo() == MILLION - 1 and other.submit("publish\nclose,1") == MILLION
     other.publish()
 

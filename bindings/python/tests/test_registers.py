@@ -211,7 +211,7 @@ def test_commands() -> None:
 def test_journal_limit() -> None:
     register = Register({"AAA": 1}, journal=2)
     assert register.submit("open,1\nopen,2") == 2
-    for other in (register, register.what_if(), pickle.loads(pickle.dumps(register))):
+    for other in (register, register.copy(), pickle.loads(pickle.dumps(register))):
         assert refusal(lambda _: other.open(3), None).name == "JournalFull"
     assert register.undo() == 1 and register.open(3) == 2
     table = {"code": ["AAA"], "votes": [1], "chair": [1], "suspended": [True]}
@@ -239,10 +239,10 @@ def test_copies() -> None:
     register = opened()
     register.publish()
     before = state(register)
-    for other in (register.what_if(), register.copy(), copy.copy(register), copy.deepcopy(register)):
+    for other in (register.copy(), copy.copy(register), copy.deepcopy(register)):
         assert state(other) == before
         other.move("AAA", None)
-    assert register.what_if().admit("EEE", 7) == 7
+    assert register.copy().admit("EEE", 7) == 7
     assert state(register) == before
 
 

@@ -120,7 +120,7 @@ CALLS: list[Callable[[Register], object]] = [
     lambda it: it.indices("half"),
     lambda it: it.publish(),
     lambda it: it.undo(),
-    lambda it: it.what_if(),
+    lambda it: it.copy(),
     lambda it: it.script(),
     lambda it: it.submit("open,2"),
 ]

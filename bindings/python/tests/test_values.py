@@ -309,7 +309,7 @@ def test_chair_names() -> None:
         register.indices("half"),
         register.read("half"),
         register.indices_of_all()["70"],
-        register.what_if().indices("half"),
+        register.copy().indices("half"),
         indices_of_members(named, "half"),
     ):
         assert board.names in (("Hills", "Lakes"), ())

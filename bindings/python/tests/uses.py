@@ -69,7 +69,7 @@ accepted: int = register.move("AAA", None)
 register.submit(["open,1", Command("open", chair=2)])
 refusal: Optional[Refused] = register.attempt("open,1")
 command: Optional[str] = Refused(1, "", "open,1").command
-register.what_if().undo()
+register.copy().undo()
 for outcome in replay(Path("script.csv")):
     if isinstance(outcome, (Reading, Accepted)):
         record: int = outcome.record
@@ -93,7 +93,7 @@ board.omega = 5  # wrong
 board.chairs[0].swings = 5  # wrong
 Command("opne")  # wrong
 board.chair(None)  # wrong
-with register.what_if():  # wrong
+with register.copy():  # wrong
     pass
 indices_of_members([(50, 1)], "half")  # wrong
 fraction: Fraction = board.chairs[0].share  # wrong

@@ -1,6 +1,6 @@
 # The names, limits and sentences of the library. Made by tools/made from the sources: do not edit.
 
-VERSION <- "0.11.0"
+VERSION <- "1.0.0"
 CHAIRS <- 32
 MEMBERS <- 256
 COMMANDS <- 1000000

@@ -232,8 +232,6 @@ board_copy <- function(r) {
   new_register(copy)
 }
 
-board_what_if <- function(r) board_copy(r)
-
 board_undo <- function(r, to = board_accepted(r) - 1) {
   handle <- handle_of(r)
   length <- one_number(to, "to is", ALLOWED[["length"]])

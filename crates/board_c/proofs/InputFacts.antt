@@ -8,7 +8,7 @@ use Rattle.council_core.specs.Rolls.{Opening}
 use Rattle.council_core.specs.Sequential.{Sequential}
 use Rattle.council_core.specs.declared.refusals.Refusal.{Refusal}
 use Rattle.council_core.specs.declared.refusals.Refusal.TheVariants.{BadLimit, TooLong}
-use Rattle.board_text.specs.Output.{Fails, ReadTo}
+use Rattle.board_text.specs.Output.{StopsReading, ReadTo}
 use Rattle.board_text.specs.Requests.{Row}
 use Rattle.board_text.specs.Scripts.{started_course, course_of_script}
 use Rattle.board_text.specs.Text.{Started, Preamble, started_of, fault_at, in_range, ledger_at_start, preamble_of, request_within, started_after, started_with}
@@ -85,23 +85,23 @@ module _ (lim : Limits) (bytes : List ℕ) where
   none-written d old count zero read = record { got = []; read = read; spans = all-none (SpansItsLine bytes); written = sym (overlaid-none old); counted = zero }
 
   module _ (fits : in_range lim ≡ true) (short : length bytes ≤ INPUT_LIMIT) (script : List Row) (same : script ≡ input_rows bytes) where
-    items-unopened : (e : Stop) → Fails e (preamble_of script) → ReadTo {T = Unit {0}} (Err e) [] (items_of lim bytes)
+    items-unopened : (e : Stop) → StopsReading e (preamble_of script) → ReadTo {T = Unit {0}} (Err e) [] (items_of lim bytes)
     items-unopened stop.OutOfMemory p = front-none (items_of lim bytes)
     items-unopened stop.ReadFault p = front-none (items_of lim bytes)
     items-unopened stop.WriteFault p = absurd p
     items-unopened (stop.Fault f) p = items-refused (stop.Fault f) f refl (begun-fault lim bytes fits short f (rw same at p))
 
-    end-unopened : (e : Stop) → Fails e (preamble_of script) → EndsReading {T = Unit {0}} (Err e) (run_of lim bytes).end
+    end-unopened : (e : Stop) → StopsReading e (preamble_of script) → EndsReading {T = Unit {0}} (Err e) (run_of lim bytes).end
     end-unopened stop.OutOfMemory p = tt
     end-unopened stop.ReadFault p = tt
     end-unopened stop.WriteFault p = absurd p
     end-unopened (stop.Fault f) p = end-refused (stop.Fault f) f refl (begun-fault lim bytes fits short f (rw same at p))
 
     -- the opening wasn't read
-    pub unopened-items : (e d : Stop) (old : List BoardItem) (count : ℕ) → d ≡ e → Fails e (preamble_of script) → count ≡ 0 → ReadItems {T = Unit {0}} (Err d) bytes (items_of lim bytes) count old old
+    pub unopened-items : (e d : Stop) (old : List BoardItem) (count : ℕ) → d ≡ e → StopsReading e (preamble_of script) → count ≡ 0 → ReadItems {T = Unit {0}} (Err d) bytes (items_of lim bytes) count old old
     unopened-items e d old count is p zero = rw is (none-written e old count zero (items-unopened e p))
 
-    pub unopened-end : (e d : Stop) → d ≡ e → Fails e (preamble_of script) → EndsReading {T = Unit {0}} (Err d) (run_of lim bytes).end
+    pub unopened-end : (e d : Stop) → d ≡ e → StopsReading e (preamble_of script) → EndsReading {T = Unit {0}} (Err d) (run_of lim bytes).end
     unopened-end e d is p = rw is (end-unopened e p)
 
     module _ (members : Opening) (n : ℕ) (left : List Row) (opened : preamble_of script ≡ Ok (members, n, left)) where

@@ -16,20 +16,22 @@ use Rattle.c_values.specs.declared.commands.BoardCommand.{BoardCommand}
 use Rattle.c_values.specs.declared.entries.BoardEntry.{BoardEntry}
 use Rattle.c_values.specs.declared.entries.BoardMemberRow.{BoardMemberRow}
 use Rattle.board_c.specs.Lending.{with_register}
+use Rattle.board_c.specs.declared.TheConstants.{DONE}
 use Rattle.board_c.specs.declared.register.handles.BoardRegister.{BoardRegister}
+use Rattle.board_c.specs.declared.register.handles.TheConstants.{LIVE}
 
 -- the handle's register, or None for a handle without one
 abbrev pub register_in : BoardRegister → Option Sequential
-register_in h = if h.state == 1 then Some h.register else None
+register_in h = if h.state == LIVE then Some h.register else None
 
--- the number of a refusal, and 0 for none
+-- the number of a refusal, and DONE for none
 abbrev pub reply_number : Result ⊤ Refusal → ℕ
-reply_number (Ok _) = 0
+reply_number (Ok _) = DONE
 reply_number (Err why) = code_of why
 
 -- the answer is the reply's number; where the reply is Ok it may be that of out of memory
 abbrev pub Answers : Result ⊤ Refusal → ℕ → Type 0
-Answers (Ok _) answer = (answer ≡ 0) ⊎ (answer ≡ code_of OutOfMemory)
+Answers (Ok _) answer = (answer ≡ DONE) ⊎ (answer ≡ code_of OutOfMemory)
 Answers (Err why) answer = answer ≡ code_of why
 
 -- the reply to a start: the refusal of an entry, or else that of the register
@@ -107,10 +109,10 @@ abbrev pub by_majority : {A : Type 0} → ℕ → Result A Refusal → Result A 
 by_majority number (Ok a) = ok_or (option_map (λ m. a) (majority_numbered number)) BadRecord
 by_majority number (Err why) = Err why
 
--- the answer is 0, and `holds` of what was found says what is written; or the answer is the
+-- the answer is DONE, and `holds` of what was found says what is written; or the answer is the
 -- refusal's number, and nothing is written
 abbrev pub Sets : {A B : Type 0} → Result B Refusal → ℕ → A → A → (B → Type 0) → Type 0
-Sets (Ok found) answer old new holds = (answer ≡ 0) × holds found
+Sets (Ok found) answer old new holds = (answer ≡ DONE) × holds found
 Sets (Err why) answer old new holds = (answer ≡ code_of why) × (new ≡ old)
 
 -- the handle has a copy of the register after its first commands
@@ -121,4 +123,4 @@ IsCopied (Some s) accepted into = register_in into ≡ Some (sequential_as_of s 
 -- the answer of a copy that was made, or could not be
 abbrev pub AnswersCopy : Option Sequential → ℕ → Type 0
 AnswersCopy None answer = answer ≡ code_of NoRegister
-AnswersCopy (Some s) answer = (answer ≡ 0) ⊎ (answer ≡ code_of OutOfMemory)
+AnswersCopy (Some s) answer = (answer ≡ DONE) ⊎ (answer ≡ code_of OutOfMemory)

@@ -6,12 +6,13 @@ use Rattle.std.specs.Box.Ownership.{box_owns}
 use Rattle.std.specs.contracts.impls.GlobalAllocator.TheImpl.{ghosts}
 use mir.Syntax.{Ty}
 use Rattle.council_core.specs.Sequential.{Sequential}
+use Rattle.board_c.specs.declared.register.handles.TheConstants.{LIVE}
 use Rattle.council_core.specs.contracts.published.PublishedRegister.{the_row}
 
--- the right to free a block of `Global`, of which there is one
+-- the right to free a block of `Global`, a type with one value
 abbrev pub frees : Ty → Ptr → Fml
 frees = ghosts.dealloc_token (record { memory = record { seal = tt } })
 
--- a handle in state 1 owns a box with this register, and any other owns nothing
+-- a handle in the state LIVE owns a box with this register, and any other owns nothing
 abbrev pub keeps : Ptr → ℕ → Sequential → Fml
-keeps at state register = cond (eqb state 1) (box_owns frees the_row at register) ftrue
+keeps at state register = cond (eqb state LIVE) (box_owns frees the_row at register) ftrue

@@ -19,6 +19,7 @@ mod loose;
 mod replies;
 
 use crate::DONE;
+use crate::answers::answer;
 use c_values::{BoardAllCounts, BoardCommand, BoardCounts, BoardEntry, BoardMemberRow};
 use council_core::{Refusal, SHEET_WORDS};
 pub use handles::BoardRegister;
@@ -93,13 +94,7 @@ pub extern "C" fn board_register_apply(
     ensures accepted { (result ≡ DONE) → HasAccepted register.old register.new command.now accepted.new }
     ensures unchanged { (result ≡ DONE) ⊎ ((register.new ≡ register.old) × (accepted.new ≡ accepted.old)) }
 {
-    match apply_to(live!(register), command) {
-        Ok(number) => {
-            *accepted = number;
-            DONE
-        }
-        Err(why) => why.code(),
-    }
+    answer(apply_to(live!(register), command), accepted)
 }
 
 /// Checks a command without carrying it out: the number that `board_register_apply` would return,

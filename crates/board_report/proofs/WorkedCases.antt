@@ -3,11 +3,12 @@ use Rattle.std.proofs.Common.{◌≡◌, ℕ, List, [], ◌∷◌, ◌++◌, ◌
 use Rattle.std.specs.IoError.{error_kind}
 use Rattle.std.specs.declared.io.Error.{Error}
 use Rattle.std.specs.declared.io.ErrorKind.TheVariants as kind
-use Rattle.recording_io.specs.Tapes.{ReaderRecord, given_since}
+use Rattle.recording_io.specs.Tapes.{ReaderRecord, WriterRecord, given_since, no_calls}
 use Rattle.council_core.specs.Refusals.{code_of}
 use Rattle.council_core.specs.declared.refusals.Refusal.TheVariants.{BadHeader, BadLimit, BadRecord, OutOfMemory, ReadFault, WriteFault}
 use Rattle.board_text.specs.Lines.{LineBytes}
 use Rattle.board_text.specs.Output.{AppendsFront}
+use Rattle.board_text.specs.Streams.{WriteFailed}
 use Rattle.board_text.specs.Text.{started_of, fault_at, stopped_run, run_limits}
 use Rattle.board_text.specs.declared.faults.Fault.{Fault}
 use Rattle.board_runs.specs.Replays.{run_of}
@@ -15,25 +16,32 @@ use Rattle.board_serve.specs.Serving.{EndsAfter, EndsBroken, EndsBeforeThreads}
 use Rattle.board_report.proofs.WordCases.{plain, replay_asks_no_text, replay_has_no_fault}
 use Rattle.board_report.specs.declared.calls.Invocation.{Invocation}
 use Rattle.board_report.specs.declared.calls.Invocation.TheVariants.{Replay, Serve, Trace}
-use Rattle.board_report.specs.Programs.{AnswersWords, CallEnds, CallExits, IsHandled, LacksMemory, LacksWords, Written, failure_text, written_streams}
+use Rattle.board_report.specs.Programs.{AnswersWords, CallEnds, CallExits, IsHandled, LacksMemory, LacksWords, Streams, failure_text}
 
 abbrev one : List ℕ
 one = 7 ∷ []
 
--- a byte came to standard output, or to standard error
-abbrev to_output : Written
-to_output = written_streams (Some []) (Some one) (Some []) (Some [])
+-- what was written since the program began, to output and to error
+abbrev recorder : List ℕ → WriterRecord
+recorder bytes = record { writer = 0; at_start = None; contents = None; bytes = bytes; calls = no_calls }
 
-abbrev to_error : Written
-to_error = written_streams (Some []) (Some []) (Some []) (Some one)
+abbrev written_streams : List ℕ → List ℕ → Streams
+written_streams out err = record { out_old = recorder []; out_new = recorder out; err_old = recorder []; err_new = recorder err }
+
+-- a byte came to standard output, or to standard error
+abbrev to_output : Streams
+to_output = written_streams one []
+
+abbrev to_error : Streams
+to_error = written_streams [] one
 
 -- where memory was refused, standard output stays, and the status is 1
 output_without_memory : LacksMemory 1 to_output → ⊥
 output_without_memory h = let e = h.out_kept in cc e
 
 -- a program that has written nothing may end so, with that status and no other
-abbrev unwritten : Written
-unwritten = written_streams (Some []) (Some []) (Some []) (Some [])
+abbrev unwritten : Streams
+unwritten = written_streams [] []
 
 nothing_said : LacksMemory 1 unwritten
 nothing_said = record { status_is = refl; out_kept = refl; said = ([], (_, refl), refl) }
@@ -100,8 +108,8 @@ unfolding started_of
 no_reader bytes = refl
 
 -- then the status is not 0
-abbrev reported_well : Written
-reported_well = written_streams (Some []) (Some (codes "fault,0,BadLimit" ++ 10 ∷ [])) (Some []) (Some [])
+abbrev reported_well : Streams
+reported_well = written_streams (codes "fault,0,BadLimit" ++ 10 ∷ []) []
 
 stopped_run_exits_well : (bytes : List ℕ) → CallExits (Replay 0 1) bytes 0 reported_well → ⊥
 unfolding started_of
@@ -119,8 +127,8 @@ stopped_trace_exits_well bytes (inr (inr lacks)) = let e = lacks.status_is in cc
 abbrev another_name : List ℕ
 another_name = codes "board: BadHeader" ++ 10 ∷ []
 
-abbrev reported_another : Written
-reported_another = written_streams (Some []) (Some (codes "fault,0,BadLimit" ++ 10 ∷ [])) (Some []) (Some another_name)
+abbrev reported_another : Streams
+reported_another = written_streams (codes "fault,0,BadLimit" ++ 10 ∷ []) another_name
 
 begins : (x text : List ℕ) → AppendsFront (Some []) (Some x) text → (rest : List ℕ) × (text ≡ x ++ rest)
 begins x text (front, whole, new) = (whole.0, whole.1 ∙ ap (λ l. l ++ whole.0) (sym new))
@@ -151,11 +159,35 @@ another_fault_named bytes (inr (inl (one, (f, inl (end, new), said)))) =
     let same : f ≡ fault_at BadLimit 0 = cc end in not_of_the_limit (subst IsSaid same said)
 another_fault_named bytes (inr (inl (one, (f, inr (inl (inl same, new)), said)))) = not_of_memory (subst IsSaid same said)
 another_fault_named bytes (inr (inl (one, (f, inr (inl (inr same, new)), said)))) = not_of_a_read (subst IsSaid same said)
-another_fault_named bytes (inr (inl (one, (f, inr (inr (same, new)), said)))) = not_of_a_write (subst IsSaid same said)
+another_fault_named bytes (inr (inl (one, (f, inr (inr (same, failed, new)), said)))) = not_of_a_write (subst IsSaid same said)
 another_fault_named bytes (inr (inr lacks)) = not_of_memory lacks.said
 
+-- where no write failed, WriteFault is not what it gets
+abbrev cut_by_itself : Streams
+cut_by_itself = written_streams (codes "fault,0") (codes "board: WriteFault" ++ 10 ∷ [])
+
+abbrev IsSaidOfAWrite : Fault → Type 0
+IsSaidOfAWrite f = AppendsFront (Some []) (Some (codes "board: WriteFault" ++ 10 ∷ [])) (failure_text f.code)
+
+another_said : (f : Fault) → IsSaidOfAWrite f → get_or (failure_text f.code) 7 0 ≡ 87
+another_said f h = at 7 (begins (codes "board: WriteFault" ++ 10 ∷ []) (failure_text f.code) h).1
+
+no_call_failed : WriteFailed no_calls no_calls → ⊥
+no_call_failed (inl e) = absurd (omega (arith, e))
+no_call_failed (inr e) = absurd (omega (arith, e))
+
+cut_without_a_failure : (bytes : List ℕ) → CallExits (Replay 0 1) bytes 1 cut_by_itself → ⊥
+unfolding started_of
+cut_without_a_failure bytes (inl well) = let e = well.0 in cc e
+cut_without_a_failure bytes (inr (inl (one, (f, inl (end, new), said)))) =
+    let same : f ≡ fault_at BadLimit 0 = cc end in absurd (omega (arith, another_said (fault_at BadLimit 0) (subst IsSaidOfAWrite same said)))
+cut_without_a_failure bytes (inr (inl (one, (f, inr (inl (inl same, new)), said)))) = absurd (omega (arith, another_said (fault_at OutOfMemory 0) (subst IsSaidOfAWrite same said)))
+cut_without_a_failure bytes (inr (inl (one, (f, inr (inl (inr same, new)), said)))) = absurd (omega (arith, another_said (fault_at ReadFault 0) (subst IsSaidOfAWrite same said)))
+cut_without_a_failure bytes (inr (inl (one, (f, inr (inr (same, failed, new)), said)))) = no_call_failed failed
+cut_without_a_failure bytes (inr (inr lacks)) = absurd (omega (arith, another_said (fault_at OutOfMemory 0) lacks.said))
+
 -- no serve with a journal of no commands ends well
-serve_without_a_journal : (bytes : List ℕ) (old new : Option (List ℕ)) → CallEnds (Serve 0) bytes old new (Ok tt) → ⊥
+serve_without_a_journal : (bytes : List ℕ) (old new : WriterRecord) → CallEnds (Serve 0) bytes old new (Ok tt) → ⊥
 unfolding started_of
 serve_without_a_journal bytes old new h = cc h.1.1
 
@@ -172,7 +204,7 @@ ends_by_the_limit : (lines : List LineBytes) (end : Option Fault) → EndsAfter 
 ends_by_the_limit lines None e is = e
 ends_by_the_limit lines (Some f) e is = let same : f ≡ fault_at BadHeader 0 = cc is in no_header lines f (same_code same) e
 
-serve_ends_in_another_fault : (bytes : List ℕ) (old new : Option (List ℕ)) → CallEnds (Serve 0) bytes old new (Err (fault_at BadHeader 0)) → ⊥
+serve_ends_in_another_fault : (bytes : List ℕ) (old new : WriterRecord) → CallEnds (Serve 0) bytes old new (Err (fault_at BadHeader 0)) → ⊥
 unfolding started_of
 serve_ends_in_another_fault bytes old new (run, is, inl (end, wrote)) = ends_by_the_limit run.lines run.end is end
-serve_ends_in_another_fault bytes old new (run, is, inr (same, wrote)) = let e = same_code same in absurd (omega (arith, e))
+serve_ends_in_another_fault bytes old new (run, is, inr (same, failed, wrote)) = let e = same_code same in absurd (omega (arith, e))

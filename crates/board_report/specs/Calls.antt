@@ -22,6 +22,7 @@ pub record Says (bits : ℕ) (text : Text) (n : ℕ) : Type 0 where
   pub small : digits_value 10 (without_leading_plus text) < 2 ^ bits
   pub same : n ≡ digits_value 10 (without_leading_plus text)
 
+-- a text is there, and it is this number, which fits in `bits` bits
 abbrev pub IsSaid : ℕ → Option Text → ℕ → Type 0
 IsSaid bits None n = ⊥
 IsSaid bits (Some text) n = Says bits text n
@@ -34,6 +35,7 @@ HasReaders rows readers = IsSaid 8 (one_of (codes "readers") rows) readers
 abbrev pub HasJournal : List Row → ℕ → Type 0
 HasJournal rows journal = IsSaid 32 (one_of (codes "journal") rows) journal
 
+-- clap found both limits
 pub record HasLimits (rows : List Row) (readers journal : ℕ) : Type 0 where
   pub readers_said : HasReaders rows readers
   pub journal_said : HasJournal rows journal
@@ -45,10 +47,11 @@ IsCall (Some found) (Replay readers journal) = (found.0 ≡ codes "replay") × H
 IsCall (Some found) (Trace readers journal) = (found.0 ≡ codes "trace") × HasLimits found.1 readers journal
 IsCall (Some found) (Serve journal) = (found.0 ≡ codes "serve") × HasJournal found.1 journal
 
--- the arguments ask for this call, without a fault; or for no call
+-- the arguments ask for this call, without a fault
 abbrev pub Asks : List Text → Invocation → Type 0
 Asks words call = (fault_of board_app words ≡ []) × IsCall (subcommand_of board_app words) call
 
+-- the arguments ask for no call
 abbrev pub AskForNone : List Text → Type 0
 AskForNone words = (call : Invocation) → Asks words call → ⊥
 
@@ -66,6 +69,7 @@ abbrev pub HaveFault : List Text → Type 0
 HaveFault words = ((k : ErrorKind) × IsAmong k (fault_of board_app words) × (IsShownText k → ⊥))
     ⊎ ((fault_of board_app words ≡ []) × AskForNone words)
 
+-- why the arguments give no call: a text that they ask for, a fault in them, or out of memory
 abbrev pub Explains : List Text → NoCall → Type 0
 Explains words (Shown text) = AskText words
 Explains words (Refused text) = HaveFault words

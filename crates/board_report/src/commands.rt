@@ -9,7 +9,7 @@ use council_core::MAX_COMMANDS;
 use std::alloc::{AllocError, Global};
 
 // The version of the program, and the toolchain and logic in which it is proved.
-const VERSION: &str = "0.11.0 (rattle-kit-13 logic dac8208d650f15bf)";
+const VERSION: &str = "1.0.0 (rattle-kit-13 logic dac8208d650f15bf)";
 
 const ABOUT: &str =
     "A register of the voting power of an executive board: members, their chairs, and how often each chair decides";

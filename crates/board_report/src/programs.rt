@@ -1,5 +1,5 @@
 //! Runs the program and returns its exit status.
-ghost use Rattle.std.specs.Prelude.{◌≡◌, ◌≤◌, ℕ, List, map, Some, IfOk, IfErr};
+ghost use Rattle.std.specs.Prelude.{◌≡◌, ◌≤◌, ℕ, List, map, IfOk, IfErr};
 ghost use Rattle.std.specs.Process.{exit_status};
 ghost use Rattle.recording_io.specs.Tapes.{CallsWithin, IsSameWriter, OfInput, WriterRecord};
 ghost use Rattle.std.specs.String.{string_bytes};
@@ -10,9 +10,8 @@ ghost use Rattle.board_report.specs.declared.calls.Invocation.{Invocation};
 ghost use Rattle.board_report.specs.declared.calls.Invocation.TheVariants.{Serve};
 ghost use Rattle.board_report.specs.declared.calls.NoCall.TheVariants as none;
 ghost use Rattle.board_report.specs.Programs.{AnswersWords, CallEnds, CallExits, IsHandled, LacksMemory, LacksWords};
-ghost use Rattle.board_report.specs.Programs.{failure_text, no_text, streams_of, words_of};
+ghost use Rattle.board_report.specs.Programs.{WritesFront, failure_text, no_text, streams_of, words_of};
 ghost use Rattle.board_text.specs.Streams.{IsOfDevice, RunsWithin, WritesWithin, most_reads, one_more};
-ghost use Rattle.board_text.specs.Output.{AppendsFront};
 
 use crate::calls::{Invocation, NoCall};
 use board_runs::{replay, trace};
@@ -31,8 +30,7 @@ use std::thread::Threads;
 // Writes the name of a fault and returns the status.
 fn fail<E: Recorder>(err: &mut E, fault: Fault) -> u8
     ensures status { result ≡ 1 }
-    ensures said { AppendsFront (Some (E.recorded err.old).bytes) (Some (E.recorded err.new).bytes)
-        (failure_text fault.code) }
+    ensures said { WritesFront (E.recorded err.old) (E.recorded err.new) (failure_text fault.code) }
     ensures same { IsSameWriter (E.recorded err.old) (E.recorded err.new) }
     ensures writes { WritesWithin (E.recorded err.old) (E.recorded err.new) }
 {
@@ -46,8 +44,7 @@ fn fail<E: Recorder>(err: &mut E, fault: Fault) -> u8
 // Writes that memory ran out and returns the status.
 fn fail_for_memory<E: Recorder>(err: &mut E) -> u8
     ensures status { result ≡ 1 }
-    ensures said { AppendsFront (Some (E.recorded err.old).bytes) (Some (E.recorded err.new).bytes)
-        (failure_text (code_of OutOfMemory)) }
+    ensures said { WritesFront (E.recorded err.old) (E.recorded err.new) (failure_text (code_of OutOfMemory)) }
     ensures same { IsSameWriter (E.recorded err.old) (E.recorded err.new) }
     ensures writes { WritesWithin (E.recorded err.old) (E.recorded err.new) }
 {
@@ -90,8 +87,7 @@ fn run_serve<T: Threads + Wait + Sync, R: Read + Drop, W: Recorder>(
     out: &mut W,
 ) -> Result<(), Fault>
     ensures ends { OfInput input.old input.new
-        (λ bytes. CallEnds (Serve journal) bytes (Some (W.recorded out.old).bytes) (Some (W.recorded out.new).bytes)
-        result) }
+        (λ bytes. CallEnds (Serve journal) bytes (W.recorded out.old) (W.recorded out.new) result) }
     ensures reads { RunsWithin IsOfDevice most_reads input.old.calls input.new.calls result }
     ensures same { IsSameWriter (W.recorded out.old) (W.recorded out.new) }
     ensures writes { WritesWithin (W.recorded out.old) (W.recorded out.new) }
@@ -111,7 +107,7 @@ fn run<T: Threads + Wait + Sync, R: Read + Drop, W: Recorder>(
     out: &mut W,
 ) -> Result<(), Fault>
     ensures ends { OfInput input.old input.new
-        (λ bytes. CallEnds call bytes (Some (W.recorded out.old).bytes) (Some (W.recorded out.new).bytes) result) }
+        (λ bytes. CallEnds call bytes (W.recorded out.old) (W.recorded out.new) result) }
     ensures reads { RunsWithin IsOfDevice most_reads input.old.calls input.new.calls result }
     ensures same { IsSameWriter (W.recorded out.old) (W.recorded out.new) }
     ensures writes { WritesWithin (W.recorded out.old) (W.recorded out.new) }

@@ -38,14 +38,18 @@ place e = ap (λ (f : Fault). f.place) e
 at : (n : ℕ) {a b : List ℕ} → a ≡ b → get_or a n 0 ≡ get_or b n 0
 at n e = ap (λ (bytes : List ℕ). get_or bytes n 0) e
 
+-- that a write failed, or didn't
+abbrev Any : Type 0
+Any = Unit {0}
+
 -- Ok is a run without a fault, whose lines are all written
-one_line_replayed : WritesOutput {A = Unit {0}} (Some []) (Some its_text) (Ok tt) one_line
+one_line_replayed : WritesOutput {A = Unit {0}} Any (Some []) (Some its_text) (Ok tt) one_line
 one_line_replayed = (refl, refl)
 
-faulty_run_ends_well : (text : List ℕ) → WritesOutput {A = Unit {0}} (Some []) (Some text) (Ok tt) (stopped_run bad_record) → ⊥
+faulty_run_ends_well : (text : List ℕ) → WritesOutput {A = Unit {0}} Any (Some []) (Some text) (Ok tt) (stopped_run bad_record) → ⊥
 faulty_run_ends_well text h = let e = h.0 in cc e
 
-line_left_out : WritesOutput {A = Unit {0}} (Some []) (Some []) (Ok tt) one_line → ⊥
+line_left_out : WritesOutput {A = Unit {0}} Any (Some []) (Some []) (Ok tt) one_line → ⊥
 line_left_out h = let e = h.1 in cc e
 
 -- a fault of the input is the run's own, and its line is written
@@ -110,7 +114,7 @@ broken_off_by_a_record (inr (f, inr same, off)) =
 abbrev seven : List ℕ
 seven = 7 ∷ []
 
-cuts_off_for_a_record : (old new : Option (List ℕ)) (run : Run) → WritesSomeBytes old new (fault_at BadRecord 0) run → ⊥
+cuts_off_for_a_record : (old new : Option (List ℕ)) (run : Run) → WritesSomeBytes Any old new (fault_at BadRecord 0) run → ⊥
 cuts_off_for_a_record old new run h = absurd (omega (arith, code h.0))
 
 begins_with_seven : (text front rest : List ℕ) → text ≡ front ++ rest → seven ≡ front → text ≡ 7 ∷ rest
@@ -120,18 +124,22 @@ no_text_with_seven : (text rest : List ℕ) → IsOutputOf (printed_run []) text
 no_text_with_seven text rest (inl e) s = cc (e, s)
 no_text_with_seven text rest (inr (f, broken, off)) s = let e = sym (broken_off_as f text off) ∙ s in cc e
 
-cuts_off_to_seven : WritesSomeBytes (Some []) (Some seven) (fault_at WriteFault 0) (printed_run []) → ⊥
-cuts_off_to_seven (reported, (text, written, (front, whole, new))) =
+cuts_off_to_seven : WritesSomeBytes Any (Some []) (Some seven) (fault_at WriteFault 0) (printed_run []) → ⊥
+cuts_off_to_seven (reported, failed, (text, written, (front, whole, new))) =
     no_text_with_seven text whole.0 written (begins_with_seven text front whole.0 whole.1 new)
 
-replays_to_seven : WritesOutput {A = Unit {0}} (Some []) (Some seven) (Err (fault_at WriteFault 0)) (printed_run []) → ⊥
+replays_to_seven : WritesOutput {A = Unit {0}} Any (Some []) (Some seven) (Err (fault_at WriteFault 0)) (printed_run []) → ⊥
 replays_to_seven (inl reported) = let e = reported.0 in cc e
 replays_to_seven (inr (inl broken)) = broken_by_a_write broken.0
 replays_to_seven (inr (inr cut)) = cuts_off_to_seven cut
 
 -- a failed write in the middle of a line
-cuts_off : WritesSomeBytes (Some []) (Some (codes "beg")) (fault_at WriteFault 0) one_line
-cuts_off = (refl, (its_text, inl refl, (codes "beg", (codes "an" ++ 10 ∷ [], refl), refl)))
+cuts_off : WritesSomeBytes Any (Some []) (Some (codes "beg")) (fault_at WriteFault 0) one_line
+cuts_off = (refl, tt, (its_text, inl refl, (codes "beg", (codes "an" ++ 10 ∷ [], refl), refl)))
+
+-- and none where no write failed
+cuts_off_by_itself : (old new : Option (List ℕ)) (run : Run) → WritesSomeBytes ⊥ old new (fault_at WriteFault 0) run → ⊥
+cuts_off_by_itself old new run h = h.1
 
 -- member,votes / AAA,1 / script / writer,1
 abbrev pub schedule : List ℕ

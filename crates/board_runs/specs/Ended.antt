@@ -7,6 +7,8 @@ use Rattle.board_text.specs.Lines.{LineBytes, fault_line}
 use Rattle.board_text.specs.Text.{Run, fault_at, output, text_of}
 use Rattle.board_text.specs.declared.faults.Fault.{Fault}
 use Rattle.board_text.specs.Output.{AppendsFront, IsBroken, IsPrefixOf}
+use Rattle.board_text.specs.Streams.{WriteFailed}
+use Rattle.recording_io.specs.Tapes.{WriterRecord}
 
 -- a prefix of the lines of a run, each whole, followed by the line of a fault
 abbrev pub IsBrokenOff : Run → Fault → List ℕ → Type 0
@@ -23,8 +25,8 @@ abbrev pub WritesSomeLines : Option (List ℕ) → Option (List ℕ) → Fault �
 WritesSomeLines old new f run = IsBroken f × ((text : List ℕ) × IsBrokenOff run f text × Appends old new text)
 
 -- after a failed write, a run has written a prefix, in bytes, of the text that it would have written
-abbrev pub WritesSomeBytes : Option (List ℕ) → Option (List ℕ) → Fault → Run → Type 0
-WritesSomeBytes old new f run = (f ≡ fault_at refusal.WriteFault 0)
+abbrev pub WritesSomeBytes : Type 0 → Option (List ℕ) → Option (List ℕ) → Fault → Run → Type 0
+WritesSomeBytes Failed old new f run = (f ≡ fault_at refusal.WriteFault 0) × Failed
     × ((text : List ℕ) × IsOutputOf run text × AppendsFront old new text)
 
 -- at a fault of its own, a run has written its whole text, with the line of that fault
@@ -32,11 +34,17 @@ abbrev pub WritesAllLines : Option (List ℕ) → Option (List ℕ) → Fault �
 WritesAllLines old new f run = (run.end ≡ Some f) × Appends old new (output run)
 
 -- what a run has written that ends in a fault
-abbrev pub WritesUntilFault : Option (List ℕ) → Option (List ℕ) → Fault → Run → Type 0
-WritesUntilFault old new f run =
-    WritesAllLines old new f run ⊎ WritesSomeLines old new f run ⊎ WritesSomeBytes old new f run
+abbrev pub WritesUntilFault : Type 0 → Option (List ℕ) → Option (List ℕ) → Fault → Run → Type 0
+WritesUntilFault Failed old new f run =
+    WritesAllLines old new f run ⊎ WritesSomeLines old new f run ⊎ WritesSomeBytes Failed old new f run
 
--- what a run has written, by its result: its whole text, or its text until a fault
-abbrev pub WritesOutput : {A : Type 0} → Option (List ℕ) → Option (List ℕ) → Result A Fault → Run → Type 0
-WritesOutput old new (Ok _) run = (run.end ≡ None) × Appends old new (output run)
-WritesOutput old new (Err f) run = WritesUntilFault old new f run
+-- what a run has written, by its result: its whole text, or its text until a fault. `Failed` is the fact that a write
+-- failed, and `⊤` where the writer isn't recorded
+abbrev pub WritesOutput : {A : Type 0} → Type 0 → Option (List ℕ) → Option (List ℕ) → Result A Fault → Run → Type 0
+WritesOutput Failed old new (Ok _) run = (run.end ≡ None) × Appends old new (output run)
+WritesOutput Failed old new (Err f) run = WritesUntilFault Failed old new f run
+
+-- what a run has written to a recorder
+abbrev pub RecordsOutput : {A : Type 0} → WriterRecord → WriterRecord → Result A Fault → Run → Type 0
+RecordsOutput old new result run =
+    WritesOutput (WriteFailed old.calls new.calls) (Some old.bytes) (Some new.bytes) result run

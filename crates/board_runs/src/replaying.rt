@@ -1,10 +1,10 @@
 //! Replays an input on the register.
-ghost use Rattle.std.specs.Prelude.{◌≡◌, Some, map, false, IfErr, OnOk};
+ghost use Rattle.std.specs.Prelude.{◌≡◌, map, false, IfErr, OnOk};
 ghost use Rattle.council_core.specs.Sequential.{response_to, published_sheet};
 ghost use Rattle.board_text.specs.Lines.{chair_line, reading_lines, reply_lines};
 ghost use Rattle.board_text.specs.Streams.{IsOfDevice, RunsWithin, WritesWithin, most_reads};
 ghost use Rattle.board_text.specs.Output.{IsBadLimit, IsMemoryOrWrite, WritesRun};
-ghost use Rattle.board_runs.specs.Ended.{WritesOutput};
+ghost use Rattle.board_runs.specs.Ended.{RecordsOutput};
 ghost use Rattle.board_text.specs.OutputStates.{IsSameOutput};
 ghost use Rattle.board_text.specs.Requests.{call_of};
 ghost use Rattle.board_text.specs.Text.{in_range, printed_run, request_within};
@@ -28,7 +28,7 @@ use std::io::Read;
 // Writes the lines of these chairs.
 fn write_chairs<W: Recorder>(rows: &[ChairPower], out: &mut Output<'_, W>) -> Result<(), Stop>
     ensures wrote { WritesRun out.old.contents out.new.contents result (printed_run (map chair_line rows.now)) }
-    ensures causes { IfErr result IsMemoryOrWrite }
+    ensures causes { IfErr result (IsMemoryOrWrite out.new) }
     ensures same_output { IsSameOutput out.old out.new }
 {
     for row in rows {
@@ -47,7 +47,7 @@ fn write_reading<W: Recorder>(
     ensures wrote { WritesRun out.old.contents out.new.contents result
         (printed_run (reading_lines reader majority (published_sheet desk.old))) }
     ensures state { desk.new ≡ desk.old }
-    ensures causes { IfErr result IsMemoryOrWrite }
+    ensures causes { IfErr result (IsMemoryOrWrite out.new) }
     ensures same_output { IsSameOutput out.old out.new }
 {
     let indices = desk.indices(majority);
@@ -66,7 +66,7 @@ fn replay_request<W: Recorder>(
     ensures wrote { WritesRun out.old.contents out.new.contents result
         (printed_run (reply_lines request (response_to desk.old (call_of request)).1)) }
     ensures state { OnOk result (desk.new ≡ (response_to desk.old (call_of request)).0) }
-    ensures causes { IfErr result IsMemoryOrWrite }
+    ensures causes { IfErr result (IsMemoryOrWrite out.new) }
     ensures same_output { IsSameOutput out.old out.new }
 {
     match request {
@@ -147,8 +147,7 @@ pub fn replay<R: Read + Drop, W: Recorder>(
     limits: Limits,
 ) -> Result<(), Fault>
     ensures wrote { OfInput input.old input.new
-        (λ bytes. WritesOutput (Some (W.recorded out.old).bytes) (Some (W.recorded out.new).bytes)
-        result (run_of limits bytes)) }
+        (λ bytes. RecordsOutput (W.recorded out.old) (W.recorded out.new) result (run_of limits bytes)) }
     ensures limits_first { in_range limits ≡ false → IsBadLimit result × (input.new ≡ input.old) }
     ensures reads { RunsWithin IsOfDevice most_reads input.old.calls input.new.calls result }
     ensures same { IsSameWriter (W.recorded out.old) (W.recorded out.new) }

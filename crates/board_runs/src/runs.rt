@@ -1,11 +1,11 @@
 //! A whole run: its lines, and the line of its fault.
-ghost use Rattle.std.specs.Prelude.{◌≡◌, Some, false};
+ghost use Rattle.std.specs.Prelude.{◌≡◌, false};
 ghost use Rattle.recording_io.specs.Tapes.{IsSameWriter, OfInput};
 ghost use Rattle.board_text.specs.Streams.{IsOfDevice, RunsWithin, WritesWithin, most_reads};
 ghost use Rattle.board_text.specs.Output.{IsBadLimit};
 ghost use Rattle.board_text.specs.Scripts.{interpreted_course, run_in};
 ghost use Rattle.board_text.specs.Text.{in_range};
-ghost use Rattle.board_runs.specs.Ended.{WritesOutput};
+ghost use Rattle.board_runs.specs.Ended.{RecordsOutput};
 
 use board_text::{Fault, Interpreter, Limits, Output, end_run, interpret};
 use recording_io::{Recorder, RecordingReader};
@@ -20,7 +20,7 @@ pub(crate) fn run<I: Interpreter, R: Read + Drop, W: Recorder>(
     limits: Limits,
 ) -> Result<(), Fault>
     ensures wrote { OfInput input.old input.new
-        (λ bytes. WritesOutput (Some (W.recorded out.old).bytes) (Some (W.recorded out.new).bytes) result
+        (λ bytes. RecordsOutput (W.recorded out.old) (W.recorded out.new) result
         (run_in (interpreted_course I.opened I.parsed I.effect limits bytes))) }
     ensures limits_first { in_range limits ≡ false → IsBadLimit result × (input.new ≡ input.old) }
     ensures reads { RunsWithin IsOfDevice most_reads input.old.calls input.new.calls result }

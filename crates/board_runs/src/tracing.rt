@@ -1,10 +1,10 @@
 //! Runs the two-copy machine on a schedule.
-ghost use Rattle.std.specs.Prelude.{◌≡◌, Some, false, replicate, IfErr, OnOk};
+ghost use Rattle.std.specs.Prelude.{◌≡◌, false, replicate, IfErr, OnOk};
 ghost use Rattle.two_copy_steps.specs.Transitions.{state_after_events, transition};
 ghost use Rattle.board_runs.specs.Notes.{note_lines};
 ghost use Rattle.board_text.specs.Streams.{IsOfDevice, RunsWithin, WritesWithin, most_reads};
 ghost use Rattle.board_text.specs.Output.{IsBadLimit, IsMemoryOrWrite, WritesRun};
-ghost use Rattle.board_runs.specs.Ended.{WritesOutput};
+ghost use Rattle.board_runs.specs.Ended.{RecordsOutput};
 ghost use Rattle.board_text.specs.OutputStates.{IsSameOutput};
 ghost use Rattle.board_text.specs.Text.{in_range, printed_run};
 ghost use Rattle.recording_io.specs.Tapes.{IsSameWriter, OfInput};
@@ -26,7 +26,7 @@ use two_copy_steps::{Event, Machine, Note};
 // Writes the line of an output of the machine, if it has one.
 fn write_note<W: Recorder>(note: Note, out: &mut Output<'_, W>) -> Result<(), Stop>
     ensures wrote { WritesRun out.old.contents out.new.contents result (printed_run (note_lines note)) }
-    ensures causes { IfErr result IsMemoryOrWrite }
+    ensures causes { IfErr result (IsMemoryOrWrite out.new) }
     ensures same_output { IsSameOutput out.old out.new }
 {
     match line_of_note(note) {
@@ -44,7 +44,7 @@ fn carry_out_event<W: Recorder>(
     ensures wrote { WritesRun out.old.contents out.new.contents result
         (printed_run (note_lines (transition machine.old event).1)) }
     ensures state { OnOk result (machine.new ≡ (transition machine.old event).0) }
-    ensures causes { IfErr result IsMemoryOrWrite }
+    ensures causes { IfErr result (IsMemoryOrWrite out.new) }
     ensures same_output { IsSameOutput out.old out.new }
 {
     write_note(machine.step(event)?, out)
@@ -60,7 +60,7 @@ fn carry_out_events<W: Recorder>(
     ensures wrote { WritesRun out.old.contents out.new.contents result
         (printed_run (output_lines machine.old (replicate count event.now))) }
     ensures state { OnOk result (machine.new ≡ state_after_events machine.old (replicate count event.now)) }
-    ensures causes { IfErr result IsMemoryOrWrite }
+    ensures causes { IfErr result (IsMemoryOrWrite out.new) }
     ensures same_output { IsSameOutput out.old out.new }
 {
     for _turn in 0..count {
@@ -139,8 +139,7 @@ pub fn trace<R: Read + Drop, W: Recorder>(
     limits: Limits,
 ) -> Result<(), Fault>
     ensures wrote { OfInput input.old input.new
-        (λ bytes. WritesOutput (Some (W.recorded out.old).bytes) (Some (W.recorded out.new).bytes)
-        result (trace_of limits bytes)) }
+        (λ bytes. RecordsOutput (W.recorded out.old) (W.recorded out.new) result (trace_of limits bytes)) }
     ensures limits_first { in_range limits ≡ false → IsBadLimit result × (input.new ≡ input.old) }
     ensures reads { RunsWithin IsOfDevice most_reads input.old.calls input.new.calls result }
     ensures same { IsSameWriter (W.recorded out.old) (W.recorded out.new) }

@@ -3,10 +3,12 @@ use Rattle.std.proofs.Common.{◌≡◌, ◌⊎◌, inl, inr, ℕ, Bool, true, f
 use Rattle.std.proofs.KnownBytes.{Appends-nil, Appends-trans}
 use Rattle.std.proofs.lemmas.List.{append-nil}
 use Rattle.std.specs.Io.KnownBytes.{Appends}
+use Rattle.std.specs.Prelude.{IsErrOf}
 use Rattle.council_core.specs.Sequential.{Reply, answered}
 use Rattle.council_core.specs.declared.refusals.Refusal.TheVariants as refusal
 use Rattle.board_text.specs.Lines.{LineBytes, audit_line, fault_line, reply_line}
 use Rattle.board_text.specs.Output.{AppendsFront, AppendsLines, Ends, EndsRun, EndsStopped, IsBroken, IsPrefixOf, Writes, WritesRun, WritesUntilStop, fault_of}
+use Rattle.board_text.specs.OutputStates.{OutputState}
 use Rattle.board_text.specs.Text.{Run, end_lines, fault_at, line_text, output, printed_run, stopped_run, text_of, with_lines}
 use Rattle.board_text.specs.declared.faults.Fault.{Fault}
 use Rattle.council_core.specs.declared.calls.Answer.{Answer}
@@ -18,9 +20,9 @@ use Rattle.std.specs.Result.{result_err}
 use Rattle.board_serve.specs.Outcomes.{IsServed, ServedLegalRecords, reported_by}
 use Rattle.board_serve.specs.Plans.{Planned}
 use Rattle.board_serve.specs.Serving.{Differs, EndsHeldUp, IsReportStop, IsServeRun, WritesServeOutput, WritesServeRun, WritesServeUntilStop, audited_run, count_lines, lines_of_work, work_lines}
-use Rattle.board_serve.specs.Work.{IsHeldUp, StopsAll}
+use Rattle.board_serve.specs.Work.{StopsAll}
 use Rattle.board_serve.specs.declared.serving.Served.{Served}
-use Rattle.board_serve.proofs.WorkFacts.{all-held}
+use Rattle.board_serve.proofs.WorkFacts.{IsHeldUp, all-held}
 
 abbrev answer_line : Answer → LineBytes
 answer_line a = reply_line (answered a)
@@ -131,6 +133,18 @@ stopped-fault p front f (none, (e, stops, is)) = by-held (all-held p.start p.rec
     by-held (inl memory) = inl (same (ap fault_of memory))
     by-held (inr closed) = inr (same (ap fault_of closed))
 
+-- a plan is stopped by no failed write, and a report by WriteFault only after one
+pub held-unfailed : (out : OutputState) (e d : Stop) (p : Planned) → d ≡ e → StopsAll p.start p.records.orders e → IsErrOf {T = Served} (Err d) stop.WriteFault → out.failed ≡ true
+held-unfailed out e d p same stops = by-held (all-held p.start p.records.orders e stops)
+  where
+    by-held : IsHeldUp e → IsErrOf {T = Served} (Err d) stop.WriteFault → out.failed ≡ true
+    by-held (inl memory) = λ write. cc (same, memory, write)
+    by-held (inr closed) = λ write. cc (same, closed, write)
+
+pub report-failed : (out : OutputState) (e d : Stop) → d ≡ e → IsReportStop out e → IsErrOf {T = Served} (Err d) stop.WriteFault → out.failed ≡ true
+report-failed out e d same (inl failed) = λ write. failed.1
+report-failed out e d same (inr differs) = λ write. cc (same, differs, write)
+
 -- the run of a plan that was carried out
 abbrev pub done_run : Planned → Bool → Run
 done_run p legal = with_lines (work_lines p) (audited_run legal)
@@ -151,13 +165,13 @@ whole a b true u p s served records t = (p, refl, served, records refl, t.1)
 whole a b false u p s served records t = cc t.0
 
 -- the report was stopped, or found a mismatch
-report-serve : (a b : Option (List ℕ)) (legal : Bool) (e : Stop) (p : Planned) → IsReportStop e → (legal ≡ false → Differs p) → WritesUntilStop a b e (done_run p legal) → WritesServeRun a b (Err e) (Ok p)
-report-serve a b legal stop.WriteFault p causes differs t = (done_run p legal, is-run p legal differs, cut-output a b (done_run p legal) t)
-report-serve a b legal (stop.Fault f) p causes differs t = (done_run p legal, is-run p legal differs, t)
-report-serve a b legal stop.OutOfMemory p (inl e) differs t = cc e
-report-serve a b legal stop.OutOfMemory p (inr e) differs t = cc e
-report-serve a b legal stop.ReadFault p (inl e) differs t = cc e
-report-serve a b legal stop.ReadFault p (inr e) differs t = cc e
+report-serve : (a b : Option (List ℕ)) (out : OutputState) (legal : Bool) (e : Stop) (p : Planned) → IsReportStop out e → (legal ≡ false → Differs p) → WritesUntilStop a b e (done_run p legal) → WritesServeRun a b (Err e) (Ok p)
+report-serve a b out legal stop.WriteFault p causes differs t = (done_run p legal, is-run p legal differs, cut-output a b (done_run p legal) t)
+report-serve a b out legal (stop.Fault f) p causes differs t = (done_run p legal, is-run p legal differs, t)
+report-serve a b out legal stop.OutOfMemory p (inl e) differs t = let x = e.0 in cc x
+report-serve a b out legal stop.OutOfMemory p (inr e) differs t = cc e
+report-serve a b out legal stop.ReadFault p (inl e) differs t = let x = e.0 in cc x
+report-serve a b out legal stop.ReadFault p (inr e) differs t = cc e
 
 -- what the threads did of a plan, what the audit found of it, and what is reported
 pub record Audited (p : Planned) (s : Served) (legal : Bool) (answers : List Answer) (counts : List ℕ) : Type 0 where
@@ -173,27 +187,36 @@ module _ (a b : Option (List ℕ)) (p : Planned) (s : Served) (legal : Bool) (an
       let P : List LineBytes → Type 0 = λ ls. WritesRun a b r (with_lines ls (audited_run legal)) in
       subst P (ap (λ (rs : List Reply). lines_of_work rs counts) done.replies ∙ ap (lines_of_work (reported_by p)) done.counted) t
 
-  pub stopped-serve : (e d : Stop) → d ≡ e → IsReportStop e → WritesUntilStop a b e (report_run answers counts legal) → WritesServeRun a b (Err d) (Ok p)
-  stopped-serve e d same causes t = rw same (report-serve a b legal e p causes (λ broken. (s, done.served, done.differs broken)) (as-done (Err e) t))
+  pub stopped-serve : (out : OutputState) (e d : Stop) → d ≡ e → IsReportStop out e → WritesUntilStop a b e (report_run answers counts legal) → WritesServeRun a b (Err d) (Ok p)
+  stopped-serve out e d same causes t = rw same (report-serve a b out legal e p causes (λ broken. (s, done.served, done.differs broken)) (as-done (Err e) t))
 
   pub whole-serve : (u : Unit {0}) → WritesRun a b (Ok u) (report_run answers counts legal) → WritesServeRun a b (Ok s) (Ok p)
   whole-serve u t = whole a b legal u p s done.served done.records (as-done (Ok u) t)
 
-ended : (a b c : Option (List ℕ)) (f g : Fault) (spec : Result Planned Fault) (run : Run) → IsServeRun spec run → WritesServeUntilStop a b (Some f) run → Ends b c f g → WritesServeOutput a c (Err g) spec
-ended a b c f g spec run is t (inl h) =
-    let P : Option Fault → Type 0 = λ end. Appends a c (text_of (run.lines ++ end_lines end)) in
-    rw h.0 (run, is, inl (t.0, subst P (sym t.0) (line-then a b c run.lines (fault_line f) t.1 h.1)))
-ended a b c f g spec run is t (inr h) =
-    let P : Option Fault → Type 0 = λ end. AppendsFront a c (text_of (run.lines ++ end_lines end)) in
-    (run, is, inr (h.0, subst P (sym t.0) (front-then a b c run.lines (fault_line f) t.1 h.1)))
+-- the end of a run whose output is in the state `b` when it stops, and `c` after the line of its fault
+module _ (Failed : Type 0) (a : Option (List ℕ)) (b c : OutputState) (failed : c.failed ≡ true → Failed) where
+  ended : (f g : Fault) (spec : Result Planned Fault) (run : Run) → IsServeRun spec run → WritesServeUntilStop a b.contents (Some f) run → Ends b c f g → WritesServeOutput Failed a c.contents (Err g) spec
+  ended f g spec run is t (inl h) =
+      let P : Option Fault → Type 0 = λ end. Appends a c.contents (text_of (run.lines ++ end_lines end)) in
+      rw h.0 (run, is, inl (t.0, subst P (sym t.0) (line-then a b.contents c.contents run.lines (fault_line f) t.1 h.1)))
+  ended f g spec run is t (inr h) =
+      let P : Option Fault → Type 0 = λ end. AppendsFront a c.contents (text_of (run.lines ++ end_lines end)) in
+      (run, is, inr (h.0, failed h.1, subst P (sym t.0) (front-then a b.contents c.contents run.lines (fault_line f) t.1 h.2)))
 
--- the end of a run that was stopped, after what was written
-ended-stop : (a b c : Option (List ℕ)) (f : Option Fault) (r : Result Served Fault) (spec : Result Planned Fault) (run : Run) → IsServeRun spec run → WritesServeUntilStop a b f run → EndsStopped b c f r → WritesServeOutput a c r spec
-ended-stop a b c None (Err g) spec run is t e = let P : Option (List ℕ) → Type 0 = λ x. AppendsFront a x (output run) in (run, is, inr (e.0, subst P (sym e.1) t))
-ended-stop a b c (Some f) (Err g) spec run is t e = ended a b c f g spec run is t e
-ended-stop a b c None (Ok s) spec run is t e = absurd e
-ended-stop a b c (Some f) (Ok s) spec run is t e = absurd e
+  -- the end of a run that was stopped, after what was written
+  ended-stop : (e : Stop) (r : Result Served Fault) (spec : Result Planned Fault) (run : Run) → (e ≡ stop.WriteFault → b.failed ≡ true) → IsServeRun spec run → WritesServeUntilStop a b.contents (fault_of e) run
+      → EndsStopped b c (fault_of e) r → WritesServeOutput Failed a c.contents r spec
+  ended-stop stop.WriteFault (Err g) spec run by is t end =
+      let P : OutputState → Type 0 = λ s. AppendsFront a s.contents (output run) in
+      (run, is, inr (end.0, failed (ap (λ (s : OutputState). s.failed) end.1 ∙ by refl), subst P (sym end.1) t))
+  ended-stop stop.OutOfMemory (Err g) spec run by is t end = ended _ g spec run is t end
+  ended-stop stop.ReadFault (Err g) spec run by is t end = ended _ g spec run is t end
+  ended-stop (stop.Fault f) (Err g) spec run by is t end = ended f g spec run is t end
+  ended-stop stop.OutOfMemory (Ok s) spec run by is t end = absurd end
+  ended-stop stop.ReadFault (Ok s) spec run by is t end = absurd end
+  ended-stop stop.WriteFault (Ok s) spec run by is t end = absurd end
+  ended-stop (stop.Fault f) (Ok s) spec run by is t end = absurd end
 
-pub ended-serve : (a b c : Option (List ℕ)) (carried : Result Served Stop) (r : Result Served Fault) (spec : Result Planned Fault) → WritesServeRun a b carried spec → EndsRun b c carried r → WritesServeOutput a c r spec
-ended-serve a b c (Ok s) r spec p e = rw (e.0, e.1) p
-ended-serve a b c (Err d) r spec p e = ended-stop a b c (fault_of d) r spec p.0 p.1 p.2 e
+  pub ended-serve : (carried : Result Served Stop) (r : Result Served Fault) (spec : Result Planned Fault) → (carried ≡ Err stop.WriteFault → b.failed ≡ true) → WritesServeRun a b.contents carried spec → EndsRun b c carried r → WritesServeOutput Failed a c.contents r spec
+  ended-serve (Ok s) r spec by p e = rw (e.0, e.1) p
+  ended-serve (Err d) r spec by p e = ended-stop d r spec p.0 (λ is. by (ap Err is)) p.1 p.2 e

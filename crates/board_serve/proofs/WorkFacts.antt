@@ -1,5 +1,5 @@
 -- The work of the threads, one record more at a time.
-use Rattle.std.proofs.Common.{◌≡◌, ◌+◌, ◌*◌, ◌≤◌, ℕ, List, [], ◌∷◌, ◌++◌, length, map, replicate, take, Some, Ok, Err, Result, inl, inr, refl, sym, ap, subst, ◌∙◌, arith, append_assoc}
+use Rattle.std.proofs.Common.{◌≡◌, ◌⊎◌, ◌+◌, ◌*◌, ◌≤◌, ℕ, List, [], ◌∷◌, ◌++◌, length, map, replicate, take, Some, Ok, Err, Result, inl, inr, refl, sym, ap, subst, ◌∙◌, arith, append_assoc}
 use Rattle.std.proofs.lemmas.List.{append-nil, length-append, map-append, replicate-append-replicate, take_more}
 use Rattle.std.proofs.lemmas.List.Elements.{All-append, All-cons, All-nil}
 use Rattle.std.proofs.lemmas.Grind.{flat_map-append}
@@ -24,8 +24,9 @@ use Rattle.board_share.proofs.Face.{adds_then, longer_none}
 use Rattle.board_share.specs.Writers.{WriterState}
 use Rattle.council_core.specs.declared.calls.Answer.{Answer}
 use Rattle.board_text.specs.declared.stops.Stop.{Stop}
+use Rattle.board_text.specs.declared.stops.Stop.TheVariants as stop
 use Rattle.board_text.proofs.Face.{first-more, StandsAt}
-use Rattle.board_serve.specs.Work.{CanAsk, HasAsked, HasWritten, IsClosed, IsHeldUp, IsRead, IsReadFrom, IsRising, IsWritten, StopsAll, StopsAt, StopsWithin, cuts_of, cuts_of_reply, ends_of, omega_at, omegas, register_of, returned_stop}
+use Rattle.board_serve.specs.Work.{CanAsk, HasAsked, HasWritten, IsClosed, IsRead, IsReadFrom, IsRising, IsWritten, StopsAll, StopsAt, StopsWithin, cuts_of, cuts_of_reply, ends_of, omega_at, omegas, register_of, returned_stop}
 use Rattle.council_core.specs.declared.calls.Order.{Order}
 use Rattle.council_core.specs.declared.calls.Order.TheVariants as order
 use Rattle.board_serve.specs.declared.reader_work.ReaderWork.{ReaderWork}
@@ -179,6 +180,10 @@ answered-more asked i m after next done one =
 pub stopped-at : (s now : Sequential) (orders : List Order) (i : ℕ) (o : Order) (e returned : Stop) → StandsAt orders i o → now ≡ state_after s (map ordered (take i orders)) → returned ≡ e → StopsAt now o e → StopsWithin s orders returned
 stopped-at s now orders i o e returned at is same stops =
     (i, o, slice_get-get_or orders i o at.within ∙ ap (λ (x : Order). Some x) (sym at.here), subst (λ (z : Sequential × Stop). StopsAt z.0 o z.1) (λ k. (is k, sym same k)) stops)
+
+-- the errors that end the writer's work early: out of memory, or a closed gate
+abbrev pub IsHeldUp : Stop → Type 0
+IsHeldUp e = (e ≡ stop.OutOfMemory) ⊎ IsClosed e
 
 -- a writer that was stopped was held up
 stopped-held : (s : Sequential) (orders : List Order) (e : Stop) → StopsWithin s orders e → IsHeldUp e

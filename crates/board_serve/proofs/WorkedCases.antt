@@ -12,7 +12,6 @@ use Rattle.council_core.specs.declared.calls.Order.TheVariants as order
 use Rattle.council_core.specs.declared.commands.Command.TheVariants.{Close, Open}
 use Rattle.council_core.specs.declared.refusals.Refusal.TheVariants as refusal
 use Rattle.majority_rule.specs.declared.majorities.Majority.TheVariants.{Half}
-use Rattle.board_audits.specs.declared.audits.AuditFault.TheVariants as found
 use Rattle.board_share.specs.Readers.{IsLegalSheet}
 use Rattle.board_text.specs.Lines.{LineBytes, audit_line}
 use Rattle.board_text.specs.Output.{AppendsFront, WritesRun}
@@ -24,7 +23,7 @@ use Rattle.board_serve.specs.Outcomes.{IsOutcome, IsServed, omegas_by, sheets_of
 use Rattle.board_serve.specs.Plans.{Planned}
 use Rattle.board_serve.specs.Serving.{Differs, EndsAfter, EndsHeldUp, WritesServeOutput, WritesAllOfServe, audited_run, work_lines}
 use Rattle.board_serve.specs.declared.serving.Served.{Served}
-use Rattle.board_serve.specs.Work.{CanEnd, IsClosed, IsHeldUp, IsRising, StopsAt, StopsWithin, ThreadEnds, cuts_of, returned_stop}
+use Rattle.board_serve.specs.Work.{CanEnd, IsClosed, IsRising, StopsAt, StopsWithin, ThreadEnds, cuts_of, returned_stop}
 use Rattle.board_serve.specs.declared.plan.TheConstants.{SERVED_READERS}
 use Rattle.board_serve.proofs.ServeFacts.{stopped-fault}
 use Rattle.std.specs.Option.{option_or}
@@ -93,10 +92,6 @@ differing_not_passed old new h = cc h.0
 
 legal_not_refused : (old new : Option (List ℕ)) → WritesRun {A = Unit {0}} old new (Err (stop.Fault (fault_at refusal.Mismatch 0))) (audited_run true) → ⊥
 legal_not_refused old new h = cc h.0
-
--- the writer isn't held up by a failed read
-not_by_a_read : IsHeldUp stop.ReadFault → ⊥
-not_by_a_read h = ⊎_elim (λ e. cc) (λ e. cc) h
 
 -- memory may run out for a command that the register accepts, and not for one that it refuses or a publication; a gate may close at any
 no_memory_to_open : StopsWithin register (order.Publish ∷ order.Submit (Open 1) ∷ []) stop.OutOfMemory
@@ -187,27 +182,27 @@ no_write f twenty lines (inl (none, is)) = let other : f.code ≡ 17 = ap (λ (g
 no_write f twenty lines (inr (none, inl is)) = let other : f.code ≡ 10 = ap (λ (g : Fault). g.code) is in omega (arith, twenty, other)
 no_write f twenty lines (inr (none, inr is)) = let other : f.code ≡ 19 = ap (λ (g : Fault). g.code) is in omega (arith, twenty, other)
 
-no_other_byte : WritesServeOutput (Some []) seven (Err (fault_at refusal.WriteFault 0)) (Err bad) → ⊥
+no_other_byte : WritesServeOutput (Unit {0}) (Some []) seven (Err (fault_at refusal.WriteFault 0)) (Err bad) → ⊥
 no_other_byte h = by_end h.0.lines h.0.end h.1 h.2
   where
     by_end : (lines : List LineBytes) (end : Option Fault) → EndsAfter (Err bad) lines end
         → ((end ≡ Some (fault_at refusal.WriteFault 0)) × Appends (Some []) seven (output (record { lines = lines; end = end })))
-        ⊎ ((fault_at refusal.WriteFault 0 ≡ fault_at refusal.WriteFault 0) × AppendsFront (Some []) seven (output (record { lines = lines; end = end }))) → ⊥
+        ⊎ ((fault_at refusal.WriteFault 0 ≡ fault_at refusal.WriteFault 0) × Unit {0} × AppendsFront (Some []) seven (output (record { lines = lines; end = end }))) → ⊥
     by_end lines None e t = e
     by_end lines (Some f) e (inl t) =
         let twenty : f.code ≡ 20 = ap code_in t.0 in
         no_write f twenty lines e
     by_end lines (Some f) e (inr t) =
         let P : List LineBytes → Type 0 = λ ls. AppendsFront (Some []) seven (output (record { lines = ls; end = Some f })) in
-        no_seven f (subst P (no_line f lines e) t.1)
+        no_seven f (subst P (no_line f lines e) t.2)
 
 -- nor does the run that ends in the fault leave another byte
-no_other_line : WritesServeOutput (Some []) seven (Err bad) (Err bad) → ⊥
+no_other_line : WritesServeOutput (Unit {0}) (Some []) seven (Err bad) (Err bad) → ⊥
 no_other_line h = by_end h.0.lines h.0.end h.1 h.2
   where
     by_end : (lines : List LineBytes) (end : Option Fault) → EndsAfter (Err bad) lines end
         → ((end ≡ Some bad) × Appends (Some []) seven (output (record { lines = lines; end = end })))
-        ⊎ ((bad ≡ fault_at refusal.WriteFault 0) × AppendsFront (Some []) seven (output (record { lines = lines; end = end }))) → ⊥
+        ⊎ ((bad ≡ fault_at refusal.WriteFault 0) × Unit {0} × AppendsFront (Some []) seven (output (record { lines = lines; end = end }))) → ⊥
     by_end lines None e t = e
     by_end lines (Some f) e (inl t) =
         let P : List LineBytes → Type 0 = λ ls. Appends (Some []) seven (output (record { lines = ls; end = Some f })) in
@@ -215,6 +210,19 @@ no_other_line h = by_end h.0.lines h.0.end h.1 h.2
         let first : 7 ≡ 102 = ap (λ (bytes : List ℕ). get_or bytes 0 0) is in
         omega (arith, first)
     by_end lines (Some f) e (inr t) = other_fault 17 20 (λ e. omega (arith, e)) t.0
+
+-- nor is there a WriteFault where no write failed
+no_failure : (old new : Option (List ℕ)) → WritesServeOutput ⊥ old new (Err (fault_at refusal.WriteFault 0)) (Err bad) → ⊥
+no_failure old new h = by_end h.0.lines h.0.end h.1 h.2
+  where
+    by_end : (lines : List LineBytes) (end : Option Fault) → EndsAfter (Err bad) lines end
+        → ((end ≡ Some (fault_at refusal.WriteFault 0)) × Appends old new (output (record { lines = lines; end = end })))
+        ⊎ ((fault_at refusal.WriteFault 0 ≡ fault_at refusal.WriteFault 0) × ⊥ × AppendsFront old new (output (record { lines = lines; end = end }))) → ⊥
+    by_end lines None e t = e
+    by_end lines (Some f) e (inl t) =
+        let twenty : f.code ≡ 20 = ap code_in t.0 in
+        no_write f twenty lines e
+    by_end lines (Some f) e (inr t) = t.1
 
 -- a run that serves to its end writes its lines
 no_silence : (s : Served) → WritesAllOfServe (Some []) (Some []) s (Ok one_reading) → ⊥

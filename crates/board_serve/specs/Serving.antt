@@ -6,6 +6,9 @@ use Rattle.council_core.specs.Sequential.{Reply}
 use Rattle.council_core.specs.declared.refusals.Refusal.TheVariants as refusal
 use Rattle.board_text.specs.Lines.{LineBytes, audit_line, reader_line, reply_line}
 use Rattle.board_text.specs.Output.{AppendsFront, IsBroken, fault_of}
+use Rattle.board_text.specs.OutputStates.{OutputState}
+use Rattle.board_text.specs.Streams.{WriteFailed}
+use Rattle.recording_io.specs.Tapes.{WriterRecord}
 use Rattle.board_text.specs.Text.{Run, fault_at, output, printed_run, stopped_run, text_of}
 use Rattle.board_text.specs.declared.faults.Fault.{Fault}
 use Rattle.board_text.specs.declared.stops.Stop.{Stop}
@@ -33,9 +36,9 @@ abbrev pub audited_run : Bool → Run
 audited_run true = printed_run (audit_line ∷ [])
 audited_run false = stopped_run (fault_at refusal.Mismatch 0)
 
--- the errors that end a report early: a failed write, or a mismatch
-abbrev pub IsReportStop : Stop → Type 0
-IsReportStop e = (e ≡ stop.WriteFault) ⊎ (e ≡ stop.Fault (fault_at refusal.Mismatch 0))
+-- the errors that end a report early: WriteFault after a write of this output failed, or a mismatch
+abbrev pub IsReportStop : OutputState → Stop → Type 0
+IsReportStop s e = ((e ≡ stop.WriteFault) × (s.failed ≡ true)) ⊎ (e ≡ stop.Fault (fault_at refusal.Mismatch 0))
 
 -- the results match the plan, but the readings are not legal records
 abbrev pub Differs : Planned → Type 0
@@ -86,9 +89,15 @@ abbrev pub WritesServeRun : Option (List ℕ) → Option (List ℕ) → Result S
 WritesServeRun old new (Ok s) spec = WritesAllOfServe old new s spec
 WritesServeRun old new (Err e) spec = (run : Run) × IsServeRun spec run × WritesServeUntilStop old new (fault_of e) run
 
--- what `serve` has written, by its result
-abbrev pub WritesServeOutput : Option (List ℕ) → Option (List ℕ) → Result Served Fault → Result Planned Fault → Type 0
-WritesServeOutput old new (Ok s) spec = WritesAllOfServe old new s spec
-WritesServeOutput old new (Err f) spec = (run : Run) × IsServeRun spec run
+-- what `serve` has written, by its result. `Failed` is the fact that a write failed
+abbrev pub WritesServeOutput : Type 0 → Option (List ℕ) → Option (List ℕ) → Result Served Fault → Result Planned Fault
+    → Type 0
+WritesServeOutput Failed old new (Ok s) spec = WritesAllOfServe old new s spec
+WritesServeOutput Failed old new (Err f) spec = (run : Run) × IsServeRun spec run
     × (((run.end ≡ Some f) × Appends old new (output run))
-    ⊎ ((f ≡ fault_at refusal.WriteFault 0) × AppendsFront old new (output run)))
+    ⊎ ((f ≡ fault_at refusal.WriteFault 0) × Failed × AppendsFront old new (output run)))
+
+-- what `serve` has written to a recorder
+abbrev pub RecordsServeOutput : WriterRecord → WriterRecord → Result Served Fault → Result Planned Fault → Type 0
+RecordsServeOutput old new result spec =
+    WritesServeOutput (WriteFailed old.calls new.calls) (Some old.bytes) (Some new.bytes) result spec

@@ -47,10 +47,6 @@ cuts_of replies = flat_map cuts_of_reply replies
 abbrev pub IsClosed : Stop → Type 0
 IsClosed e = e ≡ stop.Fault (fault_at refusal.GateClosed 0)
 
--- the errors that end the writer's work early: out of memory, or a closed gate
-abbrev pub IsHeldUp : Stop → Type 0
-IsHeldUp e = (e ≡ stop.OutOfMemory) ⊎ IsClosed e
-
 -- the error keeps this order from being carried out: no memory for a command that the register would
 -- accept, or a closed gate
 abbrev pub StopsAt : Sequential → Order → Stop → Type 0

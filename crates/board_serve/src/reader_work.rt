@@ -48,7 +48,8 @@ impl ReaderWork {
         })
     }
 
-    // Takes one reading for each record, in order.
+    // Takes one reading for each record, in order. A run has fewer readings than its input has
+    // bytes, so the count never reaches the largest u32.
     fn ask_in_order<G: Gate>(&mut self, gate: &G) -> Result<(), Stop>
         requires ready { CanAsk self.old }
         ensures grown { OnOk result (IsReadFrom self.old.analyst self.new) }

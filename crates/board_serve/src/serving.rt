@@ -1,6 +1,6 @@
 //! Serves an input with one writer thread and two reader threads.
-ghost use Rattle.std.specs.Prelude.{◌≡◌, ◌∷◌, [], Ok, Some, true, false, map};
-ghost use Rattle.std.specs.Prelude.{IfOk, IfErr, IsErrOf, IsOkUnless};
+ghost use Rattle.std.specs.Prelude.{◌≡◌, ◌∷◌, [], Ok, true, false, map};
+ghost use Rattle.std.specs.Prelude.{◌↔◌, IfOk, IfErr, IsErrOf, IsOkUnless, IsTrue};
 ghost use Rattle.recording_io.specs.Tapes.{IsSameWriter, OfInput};
 ghost use Rattle.council_core.specs.Laws.{IsOpening};
 ghost use Rattle.council_core.specs.Sequential.{AreLegalRecords, answered};
@@ -13,13 +13,13 @@ ghost use Rattle.board_text.specs.Text.{fault_at, in_range, printed_run, with_li
 ghost use Rattle.board_text.specs.declared.stops.Stop.TheVariants as stop;
 ghost use Rattle.board_serve.specs.Outcomes.{IsOutcome, IsServed, ServedLegalRecords, sheets_of};
 ghost use Rattle.board_serve.specs.Plans.{plan_of, two_readers};
-ghost use Rattle.board_serve.specs.Serving.{IsReportStop, WritesServeOutput, WritesServeRun};
+ghost use Rattle.board_serve.specs.Serving.{IsReportStop, RecordsServeOutput, WritesServeRun};
 ghost use Rattle.board_serve.specs.Serving.{audited_run, count_lines, lines_of_work};
 ghost use Rattle.board_serve.specs.Work.{StopsAll};
 
 use crate::gates::Gate;
 use crate::plan::{Plan, SERVED_READERS};
-use crate::threads::{collect, run_all, seat_all};
+use crate::threads::{collect, run_all, start_all};
 use board_share::{AuditFault, audit, audit_law};
 use board_text::{
     Fault, Limits, Output, Stop, end_run, interpret, line_of_answer, line_of_audit, line_of_count,
@@ -49,13 +49,8 @@ pub struct Served {
 // Whether the results of a run are legal records.
 fn are_legal(alloc: Global, members: &[(MemberCode, Votes)], served: &Served) -> Result<bool, Stop>
     requires opening { IsOpening members.now }
-    ensures legal { IfOk result
-        (λ legal. legal ≡ true
-        → AreLegalRecords members.now served.now.journal.items (0 ∷ served.now.cuts.items) (sheets_of served.now)) }
-    ensures broken { IfOk result
-        (λ legal. legal ≡ false
-        → AreLegalRecords members.now served.now.journal.items (0 ∷ served.now.cuts.items) (sheets_of served.now)
-        → ⊥) }
+    ensures legal { IfOk result (λ legal. IsTrue legal
+        ↔ AreLegalRecords members.now served.now.journal.items (0 ∷ served.now.cuts.items) (sheets_of served.now)) }
     ensures memory { IsOkUnless result stop.OutOfMemory }
 {
     // The laws that the proof uses.
@@ -71,6 +66,14 @@ fn are_legal(alloc: Global, members: &[(MemberCode, Votes)], served: &Served) ->
     }
 }
 
+// What the threads did of a plan, and whether the audit found legal records.
+#[derive(Drop)]
+struct Performed {
+    answers: Vec<Answer>,
+    served: Served,
+    legal: bool,
+}
+
 // Carries out a plan, each thread's records in a separate thread, and checks whether the results
 // are legal records.
 fn perform<G: Gate, R: Threads + Wait + Sync>(
@@ -78,19 +81,22 @@ fn perform<G: Gate, R: Threads + Wait + Sync>(
     alloc: Global,
     gate: &G,
     plan: Plan,
-) -> Result<(Vec<Answer>, Served, bool), Stop>
-    ensures done { IfOk result (λ r. IsOutcome plan r.0.items r.1) }
-    ensures records { IfOk result (λ r. r.2 ≡ true → ServedLegalRecords plan r.1) }
-    ensures differs { IfOk result (λ r. r.2 ≡ false → ServedLegalRecords plan r.1 → ⊥) }
+) -> Result<Performed, Stop>
+    ensures done { IfOk result (λ r. IsOutcome plan r.answers.items r.served) }
+    ensures legal { IfOk result (λ r. IsTrue r.legal ↔ ServedLegalRecords plan r.served) }
     ensures stopped { IfErr result (StopsAll plan.start plan.records.orders) }
 {
     let (register, records) = plan.into_parts();
     let members = Vec::from_slice(alloc, register.opening())?;
-    let work = seat_all(alloc, register, records)?;
+    let work = start_all(alloc, register, records)?;
     let done = run_all(rt, gate, work)?;
     let (answers, served) = collect(alloc, done)?;
     let legal = are_legal(alloc, members.as_slice(), &served)?;
-    Ok((answers, served, legal))
+    Ok(Performed {
+        answers,
+        served,
+        legal,
+    })
 }
 
 // Writes the lines of these answers.
@@ -99,6 +105,7 @@ fn write_answers<W: Recorder>(out: &mut Output<'_, W>, answers: &[Answer]) -> Re
         (printed_run (map (λ a. reply_line (answered a)) answers.now)) }
     ensures same_output { IsSameOutput out.old out.new }
     ensures only { IsOkUnless result stop.WriteFault }
+    ensures failed { IfErr result (λ _. out.new.failed ≡ true) }
 {
     for answer in answers {
         out.write_line(line_of_answer(*answer))?;
@@ -112,6 +119,7 @@ fn write_counts<W: Recorder>(out: &mut Output<'_, W>, counts: (u64, u64)) -> Res
         (printed_run (count_lines 1 (counts.0 ∷ counts.1 ∷ []))) }
     ensures same_output { IsSameOutput out.old out.new }
     ensures only { IsOkUnless result stop.WriteFault }
+    ensures failed { IfErr result (λ _. out.new.failed ≡ true) }
 {
     out.write_line(line_of_count(1, counts.0))?;
     out.write_line(line_of_count(2, counts.1))
@@ -126,7 +134,7 @@ fn report<W: Recorder>(
 ) -> Result<(), Stop>
     ensures wrote { WritesRun out.old.contents out.new.contents result
         (with_lines (lines_of_work (map answered answers.now) (counts.0 ∷ counts.1 ∷ [])) (audited_run legal)) }
-    ensures causes { IfErr result IsReportStop }
+    ensures causes { IfErr result (IsReportStop out.new) }
     ensures same_output { IsSameOutput out.old out.new }
 {
     write_answers(out, answers)?;
@@ -146,12 +154,13 @@ fn serve_plan<G: Gate, T: Threads + Wait + Sync, W: Recorder>(
     out: &mut Output<'_, W>,
 ) -> Result<Served, Stop>
     ensures wrote { WritesServeRun out.old.contents out.new.contents result (Ok plan) }
+    ensures write_fault { IsErrOf result stop.WriteFault → out.new.failed ≡ true }
     ensures same_output { IsSameOutput out.old out.new }
 {
     let counts = plan.counts();
-    let (answers, served, legal) = perform(rt, alloc, gate, plan)?;
-    report(out, answers.as_slice(), counts, legal)?;
-    Ok(served)
+    let done = perform(rt, alloc, gate, plan)?;
+    report(out, done.answers.as_slice(), counts, done.legal)?;
+    Ok(done.served)
 }
 
 // Serves the input, without the line of a fault.
@@ -165,8 +174,9 @@ fn serve_to<G: Gate, T: Threads + Wait + Sync, R: Read + Drop, W: Recorder>(
 ) -> Result<Served, Stop>
     ensures wrote { OfInput input.old input.new
         (λ bytes. WritesServeRun out.old.contents out.new.contents result (plan_of journal_limit bytes)) }
+    ensures write_fault { IsErrOf result stop.WriteFault → out.new.failed ≡ true }
     ensures limits_first { in_range (two_readers journal_limit) ≡ false
-        → IsErrOf result (Stop.Fault (fault_at refusal.BadLimit 0)) × (input.new ≡ input.old) }
+        → IsErrOf result (stop.Fault (fault_at refusal.BadLimit 0)) × (input.new ≡ input.old) }
     ensures reads { RunsWithin IsReadFault most_reads input.old.calls input.new.calls result }
     ensures same_output { IsSameOutput out.old out.new }
 {
@@ -218,8 +228,7 @@ pub fn serve<G: Gate, T: Threads + Wait + Sync, R: Read + Drop, W: Recorder>(
     journal_limit: u32,
 ) -> Result<Served, Fault>
     ensures wrote { OfInput input.old input.new
-        (λ bytes. WritesServeOutput (Some (W.recorded out.old).bytes) (Some (W.recorded out.new).bytes)
-        result (plan_of journal_limit bytes)) }
+        (λ bytes. RecordsServeOutput (W.recorded out.old) (W.recorded out.new) result (plan_of journal_limit bytes)) }
     ensures limits_first { in_range (two_readers journal_limit) ≡ false
         → IsBadLimit result × (input.new ≡ input.old) }
     ensures reads { RunsWithin IsOfDevice most_reads input.old.calls input.new.calls result }

@@ -56,7 +56,11 @@ fn split_records(records: Records) -> (Vec<Order>, Vec<Majority>, Vec<Majority>)
 }
 
 // Starts a board over a register, and gives the writer and each reader their records.
-pub(crate) fn seat_all(alloc: Global, register: Register, records: Records) -> Result<AllWork, Stop>
+pub(crate) fn start_all(
+    alloc: Global,
+    register: Register,
+    records: Records,
+) -> Result<AllWork, Stop>
     ensures ready { IfOk result AreReady }
     ensures memory { IsOkUnless result stop.OutOfMemory }
 
@@ -148,7 +152,8 @@ fn start_reader<'s, E, G: Gate>(
     }
 }
 
-// The work of all threads if all have done theirs, or else the first error, in this order.
+// The work of all threads if all have done theirs, or else the first error: the
+// writer's, that of reader 1, that of reader 2.
 fn all_done(
     writer: Result<WriterWork, Stop>,
     first: Result<ReaderWork, Stop>,

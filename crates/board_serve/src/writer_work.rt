@@ -29,7 +29,7 @@ fn submit(writer: &mut Writer, command: Command) -> Result<Answer, Stop>
     ensures after { OnOk result (register_of writer.new ≡ (response_to (register_of writer.old) (submit command)).0) }
     ensures table { writer.new.table ≡ writer.old.table }
     ensures memory { IsOkUnless result stop.OutOfMemory }
-    ensures accepted { OnErr result (verdict_of writer.old.ledger command ≡ Ok tt) }
+    ensures acceptable { OnErr result (verdict_of writer.old.ledger command ≡ Ok tt) }
 {
     match writer.submit(command) {
         Ok(accepted) => Ok(Answer::Accepted(accepted)),
@@ -39,7 +39,8 @@ fn submit(writer: &mut Writer, command: Command) -> Result<Answer, Stop>
 }
 
 // Carries out an order, and passes the gate before and after a publication. `publications` counts
-// the publications. A run has fewer than its input has bytes, so no count stops at the largest u32.
+// the publications. A run has fewer publications than its input has bytes, so the count never
+// reaches the largest u32.
 fn carry_out_order<G: Gate, R: Wait>(
     rt: &R,
     gate: &G,

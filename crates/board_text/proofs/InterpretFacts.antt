@@ -6,7 +6,7 @@ use Rattle.recording_io.specs.Tapes.{ReaderRecord, OfInput}
 use Rattle.board_text.specs.Lines.{LineBytes}
 use Rattle.board_text.specs.Text.{Started, started_of, started_after, in_range, preamble_of}
 use Rattle.board_text.specs.Scripts.{Course, started_course, run_in}
-use Rattle.board_text.specs.Output.{AppendsLines, Fails, WritesUntilStop}
+use Rattle.board_text.specs.Output.{AppendsLines, StopsReading, WritesUntilStop}
 use Rattle.board_text.specs.declared.bounds.Limits.{Limits}
 use Rattle.board_text.specs.declared.faults.Fault.{Fault}
 use Rattle.board_text.specs.declared.stops.Stop.{Stop}
@@ -17,19 +17,19 @@ use Rattle.board_text.proofs.StartingFacts.{start-records}
 nothing-written : (a : Option (List ℕ)) (lines : List LineBytes) → AppendsLines a a lines
 nothing-written a lines = ([], front-none lines, Appends-nil a)
 
-fails-stop : (a : Option (List ℕ)) (e : Stop) {S : Type 0} (interpret : Started → Course S) (spec : Result Started Fault) → Fails e spec → WritesUntilStop a a e (run_in (started_course interpret spec))
+fails-stop : (a : Option (List ℕ)) (e : Stop) {S : Type 0} (interpret : Started → Course S) (spec : Result Started Fault) → StopsReading e spec → WritesUntilStop a a e (run_in (started_course interpret spec))
 fails-stop a stop.OutOfMemory interpret spec p = nothing-written a _
 fails-stop a stop.ReadFault interpret spec p = nothing-written a _
 fails-stop a stop.WriteFault interpret spec p = absurd p
 fails-stop a (stop.Fault f) interpret spec p = rw p (refl, Appends-nil a)
 
 -- where nothing came of the input, nothing was written
-pub writes-failed : (a : Option (List ℕ)) (e d : Stop) {S : Type 0} (interpret : Started → Course S) (spec : Result Started Fault) → d ≡ e → Fails e spec → WritesUntilStop a a d (run_in (started_course interpret spec))
+pub writes-failed : (a : Option (List ℕ)) (e d : Stop) {S : Type 0} (interpret : Started → Course S) (spec : Result Started Fault) → d ≡ e → StopsReading e spec → WritesUntilStop a a d (run_in (started_course interpret spec))
 writes-failed a e d interpret spec same p = let P : Stop → Type 0 = λ s. WritesUntilStop a a s (run_in (started_course interpret spec)) in subst P (sym same) (fails-stop a e interpret spec p)
 
 -- the same of an input
 pub writes-failed_input : (from to : ReaderRecord) (a : Option (List ℕ)) (e d : Stop) {S : Type 0} (lim : Limits) (interpret : Started → Course S) → d ≡ e
-    → OfInput from to (λ bytes. Fails e (started_of lim bytes)) → OfInput from to (λ bytes. WritesUntilStop a a d (run_in (started_course interpret (started_of lim bytes))))
+    → OfInput from to (λ bytes. StopsReading e (started_of lim bytes)) → OfInput from to (λ bytes. WritesUntilStop a a d (run_in (started_course interpret (started_of lim bytes))))
 writes-failed_input from to a e d lim interpret same p = λ bytes is. writes-failed a e d interpret (started_of lim bytes) same (p bytes is)
 
 -- a text that was read: an input that is not too long, where the limits are in range

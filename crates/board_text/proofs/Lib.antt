@@ -10,6 +10,7 @@ mod StartingFacts
 mod ReadingFacts
 mod RecordFacts
 mod InterpretFacts
+mod FailureFacts
 mod NumberFacts
 mod DigitFacts
 mod WritingFacts

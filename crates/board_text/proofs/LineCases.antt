@@ -1,5 +1,5 @@
 -- The lines of worked examples, computed; and what the definitions of reading, starting and writing exclude.
-use Rattle.std.proofs.Common.{◌≡◌, ◌++◌, ◌∷◌, inl, inr, ℕ, false, List, [], replicate, Some, None, Ok, Err, refl, ap, arith}
+use Rattle.std.proofs.Common.{◌≡◌, ◌++◌, ◌∷◌, inl, inr, ℕ, Bool, true, false, List, [], replicate, Some, None, Ok, Err, refl, ap, arith}
 use Rattle.std.specs.Prelude.{codes}
 use Rattle.std.specs.Fmt.{digits}
 use Rattle.council_core.specs.Ledgers.{Ledger}
@@ -9,10 +9,11 @@ use Rattle.council_core.specs.declared.calls.Order.TheVariants as order
 use Rattle.council_core.specs.declared.refusals.Refusal.TheVariants.{BadHeader, BadIndex, BadLimit, BadRecord, ChairOpen, OutOfMemory, ReadFault, WriteFault}
 use Rattle.majority_rule.specs.declared.majorities.Majority.TheVariants.{Half, Seventy, EightyFive, Quorum}
 use Rattle.power_index.specs.Indices.{fraction}
-use Rattle.recording_io.specs.Tapes.{Calls, ReaderRecord, no_calls}
+use Rattle.recording_io.specs.Tapes.{Calls, ReaderRecord, WriterRecord, no_calls}
 use Rattle.board_text.specs.Inputs.{Reads}
 use Rattle.board_text.specs.Lines.{audit_line, fault_line, fault_name, fraction_if_any, reader_line, reading_lines, reply_line, reply_lines}
 use Rattle.board_text.specs.Output.{Ends, EndsRun, WritesRun, ReadTo, Starts, Writes, WritesSome, fault_of, stop_of}
+use Rattle.board_text.specs.OutputStates.{OutputState}
 use Rattle.board_text.specs.Text.{fault_at, ledger_at_start, output, printed_run, run_limits, stopped_run, text_of, with_lines}
 use Rattle.majority_rule.specs.Majorities.{word_of_majority}
 use Rattle.board_text.specs.declared.faults.Fault.{Fault}
@@ -160,39 +161,56 @@ refused_without_reason (why, is, same) = let e = is in cc e
 refused_at_a_record : Starts (run_limits 1 0) [] (Err (stop.Fault (fault_at BadLimit 5))) → ⊥
 refused_at_a_record (why, is, same) = let e = ap (λ (f : Fault). f.place) same in omega (arith, e)
 
--- the line of a fault is written, and the fault returned, or a failed write
-fault_without_its_line : Ends (Some []) (Some []) (fault_at BadRecord 5) (fault_at BadRecord 5) → ⊥
+-- an output with these contents, of which a write has failed or not
+abbrev contents_then : List ℕ → Bool → OutputState
+contents_then bytes failed =
+    let at_start : WriterRecord = record { writer = 4; at_start = None; contents = None; bytes = []; calls = no_calls } in
+    record { writer = 5; start = at_start; now = record at_start { bytes = bytes }; contents = Some bytes; retried = 3; failed = failed }
+
+abbrev nothing_yet : OutputState
+nothing_yet = contents_then [] false
+
+-- the line of a fault is written, and the fault returned, or a write failed
+fault_without_its_line : Ends nothing_yet nothing_yet (fault_at BadRecord 5) (fault_at BadRecord 5) → ⊥
 unfolding digits
 fault_without_its_line (inl h) = let e = h.1 in cc e
 fault_without_its_line (inr h) = let e = ap (λ (f : Fault). f.code) h.0 in omega (arith, e)
 
-another_fault_returned : Ends (Some []) (Some (codes "fault,5,BadRecord\n")) (fault_at BadRecord 5) (fault_at BadRecord 6) → ⊥
+another_fault_returned : Ends nothing_yet (contents_then (codes "fault,5,BadRecord\n") false) (fault_at BadRecord 5) (fault_at BadRecord 6) → ⊥
 another_fault_returned (inl h) = let e = ap (λ (f : Fault). f.place) h.0 in omega (arith, e)
 another_fault_returned (inr h) = let e = ap (λ (f : Fault). f.place) h.0 in omega (arith, e)
 
-another_line_written : Ends (Some []) (Some seven) (fault_at BadRecord 5) (fault_at WriteFault 0) → ⊥
+another_line_written : Ends nothing_yet (contents_then seven true) (fault_at BadRecord 5) (fault_at WriteFault 0) → ⊥
 unfolding digits
 another_line_written (inl h) = let e = ap (λ (f : Fault). f.place) h.0 in omega (arith, e)
-another_line_written (inr (same, ([], whole, new))) = let e = new in cc e
-another_line_written (inr (same, (byte ∷ front, whole, new))) = omega (arith, ap first_of whole.1, ap first_of new)
+another_line_written (inr (same, failed, ([], whole, new))) = let e = new in cc e
+another_line_written (inr (same, failed, (byte ∷ front, whole, new))) = omega (arith, ap first_of whole.1, ap first_of new)
+
+part_of_its_line : Ends nothing_yet (contents_then (codes "fault") true) (fault_at BadRecord 5) (fault_at WriteFault 0)
+unfolding digits
+part_of_its_line = inr (refl, refl, (codes "fault", (codes ",5,BadRecord\n", refl), refl))
+
+no_write_failed : Ends nothing_yet (contents_then (codes "fault") false) (fault_at BadRecord 5) (fault_at WriteFault 0) → ⊥
+no_write_failed (inl h) = let e = ap (λ (f : Fault). f.place) h.0 in omega (arith, e)
+no_write_failed (inr (same, failed, front)) = let e = failed in cc e
 
 -- a run that ends well writes nothing more and keeps its value, and no run ends well after a stop
-written_behind_the_run : EndsRun {A = Unit {0}} (Some []) (Some seven) (Ok tt) (Ok tt) → ⊥
-written_behind_the_run h = let e = h.1 in cc e
+written_behind_the_run : EndsRun {A = Unit {0}} nothing_yet (contents_then seven false) (Ok tt) (Ok tt) → ⊥
+written_behind_the_run h = let e = ap (λ (s : OutputState). s.contents) h.1 in cc e
 
-another_value : EndsRun {A = ℕ} (Some []) (Some []) (Ok 1) (Ok 2) → ⊥
+another_value : EndsRun {A = ℕ} nothing_yet nothing_yet (Ok 1) (Ok 2) → ⊥
 another_value h = let e = h.0 in cc e
 
-stop_forgotten : EndsRun {A = Unit {0}} (Some []) (Some []) (Err stop.WriteFault) (Ok tt) → ⊥
+stop_forgotten : EndsRun {A = Unit {0}} nothing_yet nothing_yet (Err stop.WriteFault) (Ok tt) → ⊥
 stop_forgotten h = h
 
-written_after_a_failure : EndsRun {A = Unit {0}} (Some []) (Some seven) (Err stop.WriteFault) (Err (fault_at WriteFault 0)) → ⊥
-written_after_a_failure h = let e = h.1 in cc e
+written_after_a_failure : EndsRun {A = Unit {0}} nothing_yet (contents_then seven false) (Err stop.WriteFault) (Err (fault_at WriteFault 0)) → ⊥
+written_after_a_failure h = let e = ap (λ (s : OutputState). s.contents) h.1 in cc e
 
-failure_called_otherwise : EndsRun {A = Unit {0}} (Some []) (Some []) (Err stop.WriteFault) (Err (fault_at ReadFault 0)) → ⊥
+failure_called_otherwise : EndsRun {A = Unit {0}} nothing_yet nothing_yet (Err stop.WriteFault) (Err (fault_at ReadFault 0)) → ⊥
 failure_called_otherwise h = let e = ap (λ (f : Fault). f.code) h.0 in omega (arith, e)
 
-stopped_without_its_line : EndsRun {A = Unit {0}} (Some []) (Some []) (Err (stop.Fault (fault_at BadRecord 5))) (Err (fault_at BadRecord 5)) → ⊥
+stopped_without_its_line : EndsRun {A = Unit {0}} nothing_yet nothing_yet (Err (stop.Fault (fault_at BadRecord 5))) (Err (fault_at BadRecord 5)) → ⊥
 stopped_without_its_line h = fault_without_its_line h
 
 -- one read: bytes were given, or it was interrupted and counted, or the input has ended

@@ -1,14 +1,15 @@
 -- The calls of a run, by those that read its input.
-use Rattle.std.proofs.Common.{◌≡◌, inl, inr, ℕ, List, Option, Some, None, Result, Ok, Err, refl, arith}
+use Rattle.std.proofs.Common.{◌≡◌, inl, inr, Option, Some, None, Result, Ok, Err, refl, arith}
 use Rattle.recording_io.specs.Tapes.{Calls, CallsWithin}
 use Rattle.board_text.specs.Streams.{IsOfDevice, IsReadFault, RunsWithin, most_reads, most_reads_at, most_reads_by}
 use Rattle.board_text.specs.Output.{EndsRun, EndsStopped, fault_of}
+use Rattle.board_text.specs.OutputStates.{OutputState}
 use Rattle.board_text.specs.declared.faults.Fault.{Fault}
 use Rattle.board_text.specs.declared.stops.Stop.{Stop}
 use Rattle.board_text.specs.declared.stops.Stop.TheVariants as stop
 
 -- what is returned after a fault is no value
-no-value : {A : Type 0} (a b : Option (List ℕ)) (f : Option Fault) (x : A) → EndsStopped a b f (Ok x) → ⊥
+no-value : {A : Type 0} (a b : OutputState) (f : Option Fault) (x : A) → EndsStopped a b f (Ok x) → ⊥
 no-value a b None x ends = ends
 no-value a b (Some f) x ends = ends
 
@@ -35,7 +36,7 @@ module _ (from to : Calls) where
   pub run-passed : {E : Type 0} (Tells : E → Type 0) (e d : E) → d ≡ e → RunsWithin {A = Unit {0}} Tells most_reads from to (Err e) → RunsWithin {A = Unit {0}} Tells most_reads from to (Err d)
   run-passed Tells e d same p = rw same p
 
-  module _ (A : Type 0) (a b : Option (List ℕ)) where
+  module _ (A : Type 0) (a b : OutputState) where
     -- a failed read is reported as such, or as a failed write
     reported : (e : Stop) (g : Fault) → EndsStopped {A = A} a b (fault_of e) (Err g) → IsReadFault e → IsOfDevice g
     reported stop.ReadFault g (inl ends) failed = inl ends.0

@@ -6,9 +6,9 @@ use Rattle.council_core.specs.declared.commands.Command.TheVariants.{Open, Move}
 use Rattle.council_core.specs.Rolls.{Opening}
 use Rattle.council_core.specs.declared.refusals.Refusal.TheVariants.{BadHeader, BadLimit, BadRecord, ChairOpen, OutOfMemory, ReadFault, TooLong, WriteFault}
 use Rattle.recording_io.specs.Tapes.{Calls, CallsWithin, WriterRecord}
-use Rattle.board_text.specs.Streams.{IsOfDevice, IsReadFault, RunsWithin, WritesWithin, most_reads, most_reads_by}
+use Rattle.board_text.specs.Streams.{WriteFailed, IsOfDevice, IsReadFault, RunsWithin, WritesWithin, most_reads, most_reads_by}
 use Rattle.board_text.specs.declared.stops.Stop.{Stop}
-use Rattle.board_text.specs.Output.{Fails, IsBadLimit, IsBroken, WritesRun, Starts}
+use Rattle.board_text.specs.Output.{StopsReading, IsBadLimit, IsBroken, IsMemoryOrWrite, WritesRun, Starts}
 use Rattle.board_text.specs.Text.{fault_at, printed_run, stopped_run}
 use Rattle.board_text.specs.declared.bounds.Limits.{Limits}
 use Rattle.board_text.specs.declared.faults.Fault.{Fault}
@@ -121,24 +121,56 @@ nothing_behind_a_failure = refl
 written_behind_a_failure : EachWriteAccepts {A = Unit {0}} {E = Unit {0}} (failed_output 1) (failed_output 2) (Err tt) → ⊥
 written_behind_a_failure h = let e = ap (λ (s : OutputState). s.now.calls.made) h in cc e
 
+-- WriteFault comes after a failure alone
+not_without_failure : IsMemoryOrWrite (output_after 0 1 0) stop.WriteFault → ⊥
+not_without_failure (inl e) = cc e
+not_without_failure (inr (is, failed)) = let e = failed in cc e
+
 -- two bytes of a writer and three writes of them, one interrupted and retried; and a fourth that failed
 abbrev two_written : ℕ → ℕ → ℕ → WriterRecord
 two_written made empty interrupted = record (writer made empty interrupted) { bytes = 7 ∷ 8 ∷ [] }
 
 three_writes : IsWrittenBy (writer 0 0 0) (two_written 3 0 1) 1 false
-three_writes = record { same = (refl, refl); grown = omega arith; calls = record { made = omega arith; empty = omega arith; interrupted = omega arith } }
+three_writes = record { same = (refl, refl); grown = omega arith; calls = record { made = omega arith; empty = omega arith; interrupted = omega arith }; empty_grown = omega arith; retries = omega arith; failure = λ e. cc e }
 
 fourth_write : IsWrittenBy (writer 0 0 0) (two_written 4 0 1) 1 false → ⊥
 fourth_write h = absurd (omega (arith, h.calls.made))
 
 failed_fourth_write : IsWrittenBy (writer 0 0 0) (two_written 4 1 1) 1 true
-failed_fourth_write = record { same = (refl, refl); grown = omega arith; calls = record { made = omega arith; empty = omega arith; interrupted = omega arith } }
+failed_fourth_write = record { same = (refl, refl); grown = omega arith; calls = record { made = omega arith; empty = omega arith; interrupted = omega arith }; empty_grown = omega arith; retries = omega arith; failure = λ e. inl (omega arith) }
 
 unseen_failure : IsWrittenBy (writer 0 0 0) (two_written 3 1 0) 0 false → ⊥
 unseen_failure h = absurd (omega (arith, h.calls.empty))
 
 uncounted_interruption : IsWrittenBy (writer 0 0 0) (two_written 3 0 1) 0 false → ⊥
 uncounted_interruption h = absurd (omega (arith, h.calls.interrupted))
+
+forgotten_call : IsWrittenBy (writer 0 4 0) (two_written 4 3 0) 0 false → ⊥
+forgotten_call h = absurd (omega (arith, h.empty_grown))
+
+unmade_retry : IsWrittenBy (writer 0 0 0) (two_written 3 0 1) 2 false → ⊥
+unmade_retry h = absurd (omega (arith, h.retries))
+
+failure_without_a_call : IsWrittenBy (writer 0 0 0) (two_written 3 0 1) 1 true → ⊥
+failure_without_a_call h = no_call_failed (h.failure refl)
+  where
+    no_call_failed : WriteFailed (writer 0 0 0).calls (two_written 3 0 1).calls → ⊥
+    no_call_failed (inl e) = absurd (omega (arith, e))
+    no_call_failed (inr e) = absurd (omega (arith, e))
+
+-- a call fails that moves no byte, or that is interrupted once more than is retried
+abbrev calls_of : ℕ → ℕ → Calls
+calls_of empty interrupted = record { made = 2000; empty = empty; interrupted = interrupted }
+
+moved_no_byte : WriteFailed (calls_of 3 4) (calls_of 4 4)
+moved_no_byte = inl (omega arith)
+
+interrupted_once_more : WriteFailed (calls_of 3 4) (calls_of 3 1005)
+interrupted_once_more = inr (omega arith)
+
+interrupted_as_often : WriteFailed (calls_of 3 4) (calls_of 3 1004) → ⊥
+interrupted_as_often (inl e) = absurd (omega (arith, e))
+interrupted_as_often (inr e) = absurd (omega (arith, e))
 
 bytes_lost : IsWrittenBy (two_written 0 0 0) (writer 0 0 0) 0 false → ⊥
 bytes_lost h = absurd (omega (arith, h.grown))
@@ -296,10 +328,10 @@ broken_at_a_record (inl e) = absurd (omega (arith, place e))
 broken_at_a_record (inr e) = absurd (omega (arith, place e))
 
 -- reading an input writes nothing, and starting a register reads nothing
-input_not_written : Fails {A = Unit {0}} stop.WriteFault (Ok tt) → ⊥
+input_not_written : StopsReading {A = Unit {0}} stop.WriteFault (Ok tt) → ⊥
 input_not_written h = h
 
-another_fault_reported : Fails {A = Unit {0}} (stop.Fault (fault_at BadRecord 2)) (Err (fault_at BadRecord 3)) → ⊥
+another_fault_reported : StopsReading {A = Unit {0}} (stop.Fault (fault_at BadRecord 2)) (Err (fault_at BadRecord 3)) → ⊥
 another_fault_reported e = absurd (omega (arith, place (reported e)))
 
 start_reads_nothing : (lim : Limits) (members : Opening) → Starts lim members (Err stop.ReadFault) → ⊥

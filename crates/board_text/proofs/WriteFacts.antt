@@ -1,11 +1,13 @@
 -- Writes that go on where the last one ended.
-use Rattle.std.proofs.Common.{◌≡◌, ◌⊎◌, inl, inr, Bool, true, false, IfErr, ℕ, ◌+◌, ◌-◌, List, [], Option, Result, Ok, Err, length, take, drop, ◌++◌, subst, sym, ap, ◌∙◌, arith, append_assoc}
+use Rattle.std.proofs.Common.{◌≡◌, ◌⊎◌, inl, inr, Bool, true, false, IfErr, ℕ, ◌+◌, ◌-◌, ◌≤◌, List, [], Option, Result, Ok, Err, length, take, drop, ◌++◌, subst, sym, ap, ◌∙◌, arith, append_assoc}
 use Rattle.std.proofs.Math.Seq.{take-add}
 use Rattle.std.proofs.lemmas.List.{append-nil, length-drop, take_all, take-append-drop}
 use Rattle.std.proofs.KnownBytes.{Appends-trans}
 use Rattle.std.specs.Io.KnownBytes.{Appends}
 use Rattle.board_text.specs.Output.{AppendsFront, Writes}
-use Rattle.board_text.specs.OutputStates.{FailsOnce, HasFailed, OutputState}
+use Rattle.recording_io.specs.Tapes.{Calls, IsSameWriter, WriterRecord, after_call}
+use Rattle.board_text.specs.OutputStates.{FailsOnce, HasFailed, IsWrittenBy, OutputState}
+use Rattle.board_text.specs.Streams.{WriteFailed}
 use Rattle.board_text.specs.declared.stops.Stop.{Stop}
 
 -- the rest of a slice, as a range of it
@@ -42,3 +44,35 @@ first-failure before after live h = subst (λ (b : Bool). FailsOnce b before aft
 
 pub as-first : (before after : OutputState) → before.failed ≡ false → HasFailed before after → FailsOnce before.failed before after
 as-first before after live h = subst (λ (b : Bool). FailsOnce b before after) (sym live) h
+
+-- a writer whose last write failed: it moved no byte, or was interrupted with no retry left
+pub failed-write : (start before after : WriterRecord) (retried : ℕ) (failed : Bool) → failed ≡ false → IsWrittenBy start before retried failed → IsSameWriter before after → after.bytes ≡ before.bytes
+    → (after.calls ≡ after_call before.calls 0 false) ⊎ ((after.calls ≡ after_call before.calls 0 true) × (1000 ≤ retried)) → IsWrittenBy start after retried true
+failed-write start before after retried failed live is same bytes = by-call
+  where
+    was : IsWrittenBy start before retried false
+    was = subst (λ (b : Bool). IsWrittenBy start before retried b) live is
+
+    more : length after.bytes ≡ length before.bytes
+    more = ap length bytes
+
+    -- the counts after it
+    written : (after.calls.made ≡ before.calls.made + 1) → (after.calls.empty ≤ before.calls.empty + 1) → (after.calls.interrupted ≤ before.calls.interrupted + 1) → (before.calls.empty ≤ after.calls.empty) → (before.calls.interrupted ≤ after.calls.interrupted) → WriteFailed start.calls after.calls → IsWrittenBy start after retried true
+    written made empty interrupted more-empty kept failure = record {
+      same = (same.0 ∙ was.same.0, same.1 ∙ was.same.1);
+      grown = omega (arith, was.grown, more);
+      calls = record { made = omega (arith, was.calls.made, made, more, was.grown); empty = omega (arith, was.calls.empty, empty); interrupted = omega (arith, was.calls.interrupted, interrupted) };
+      empty_grown = omega (arith, was.empty_grown, more-empty);
+      retries = omega (arith, was.retries, kept);
+      failure = λ e. failure;
+    }
+
+    by-call : (after.calls ≡ after_call before.calls 0 false) ⊎ ((after.calls ≡ after_call before.calls 0 true) × (1000 ≤ retried)) → IsWrittenBy start after retried true
+    by-call (inl e) =
+        let empty = ap (λ (c : Calls). c.empty) e in
+        let interrupted = ap (λ (c : Calls). c.interrupted) e in
+        written (ap (λ (c : Calls). c.made) e) (omega (arith, empty)) (omega (arith, interrupted)) (omega (arith, empty)) (omega (arith, interrupted)) (inl (omega (arith, empty, was.empty_grown)))
+    by-call (inr (e, full)) =
+        let empty = ap (λ (c : Calls). c.empty) e in
+        let interrupted = ap (λ (c : Calls). c.interrupted) e in
+        written (ap (λ (c : Calls). c.made) e) (omega (arith, empty)) (omega (arith, interrupted)) (omega (arith, empty)) (omega (arith, interrupted)) (inr (omega (arith, interrupted, was.retries, full)))

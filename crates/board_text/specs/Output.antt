@@ -1,5 +1,5 @@
 -- The text that a run has written, by its result.
-use Rattle.std.specs.Prelude.{◌≡◌, ◌≤◌, ℕ, length, take, ◌++◌, ◌⊎◌, List, Option}
+use Rattle.std.specs.Prelude.{◌≡◌, ◌≤◌, ℕ, true, length, take, ◌++◌, ◌⊎◌, List, Option}
 use Rattle.std.specs.Prelude.{Some, None, Result, Ok, Err}
 use Rattle.std.specs.Io.KnownBytes.{Appends}
 use Rattle.council_core.specs.Ledgers.{Ledger, start_verdict}
@@ -8,6 +8,7 @@ use Rattle.council_core.specs.declared.refusals.Refusal.{Refusal}
 use Rattle.council_core.specs.declared.refusals.Refusal.TheVariants as refusal
 use Rattle.board_text.specs.declared.bounds.Limits.{Limits}
 use Rattle.board_text.specs.Lines.{LineBytes, fault_line}
+use Rattle.board_text.specs.OutputStates.{OutputState}
 use Rattle.board_text.specs.Text.{Run, fault_at, line_text, ledger_at_start, text_of}
 use Rattle.board_text.specs.declared.faults.Fault.{Fault}
 use Rattle.board_text.specs.declared.stops.Stop.{Stop}
@@ -51,17 +52,17 @@ abbrev pub WritesRun : {A : Type 0} → Option (List ℕ) → Option (List ℕ) 
 WritesRun old new (Ok _) run = (run.end ≡ None) × Appends old new (text_of run.lines)
 WritesRun old new (Err e) run = WritesUntilStop old new e run
 
--- out of memory, or a failed write
-abbrev pub IsMemoryOrWrite : Stop → Type 0
-IsMemoryOrWrite e = (e ≡ stop.OutOfMemory) ⊎ (e ≡ stop.WriteFault)
+-- out of memory, or WriteFault after a write of this output failed
+abbrev pub IsMemoryOrWrite : OutputState → Stop → Type 0
+IsMemoryOrWrite s e = (e ≡ stop.OutOfMemory) ⊎ ((e ≡ stop.WriteFault) × (s.failed ≡ true))
 
 -- the error of a read of the input: out of memory, a failed read, or the fault that the definition
 -- gives
-abbrev pub Fails : {A : Type 0} → Stop → Result A Fault → Type 0
-Fails stop.OutOfMemory spec = Unit {0}
-Fails stop.ReadFault spec = Unit {0}
-Fails stop.WriteFault spec = ⊥
-Fails (stop.Fault f) spec = spec ≡ Err f
+abbrev pub StopsReading : {A : Type 0} → Stop → Result A Fault → Type 0
+StopsReading stop.OutOfMemory spec = Unit {0}
+StopsReading stop.ReadFault spec = Unit {0}
+StopsReading stop.WriteFault spec = ⊥
+StopsReading (stop.Fault f) spec = spec ≡ Err f
 
 -- what was read of `all`: all of it, or a prefix if memory ran out
 abbrev pub ReadTo : {T A : Type 0} → Result T Stop → List A → List A → Type 0
@@ -96,20 +97,21 @@ fault_of (stop.Fault f) = Some f
 abbrev pub IsBroken : Fault → Type 0
 IsBroken f = (f ≡ fault_at refusal.OutOfMemory 0) ⊎ (f ≡ fault_at refusal.ReadFault 0)
 
--- the line of the fault was written, or the writer failed
-abbrev pub Ends : Option (List ℕ) → Option (List ℕ) → Fault → Fault → Type 0
+-- the line of the fault was written, or a write failed
+abbrev pub Ends : OutputState → OutputState → Fault → Fault → Type 0
 Ends old new f result =
-    ((result ≡ f) × Appends old new (line_text (fault_line f)))
-    ⊎ ((result ≡ fault_at refusal.WriteFault 0) × AppendsFront old new (line_text (fault_line f)))
+    ((result ≡ f) × Appends old.contents new.contents (line_text (fault_line f)))
+    ⊎ ((result ≡ fault_at refusal.WriteFault 0) × (new.failed ≡ true)
+    × AppendsFront old.contents new.contents (line_text (fault_line f)))
 
 -- the end of a run that stopped, by the fault of its stop
-abbrev pub EndsStopped : {A : Type 0} → Option (List ℕ) → Option (List ℕ) → Option Fault → Result A Fault → Type 0
+abbrev pub EndsStopped : {A : Type 0} → OutputState → OutputState → Option Fault → Result A Fault → Type 0
 EndsStopped old new f (Ok a) = ⊥
 EndsStopped old new None (Err g) = (g ≡ fault_at refusal.WriteFault 0) × (new ≡ old)
 EndsStopped old new (Some f) (Err g) = Ends old new f g
 
 -- the end of a run: its value, and nothing more is written; or its fault, and that fault's line
-abbrev pub EndsRun : {A : Type 0} → Option (List ℕ) → Option (List ℕ) → Result A Stop → Result A Fault → Type 0
+abbrev pub EndsRun : {A : Type 0} → OutputState → OutputState → Result A Stop → Result A Fault → Type 0
 EndsRun old new (Ok a) result = (result ≡ Ok a) × (new ≡ old)
 EndsRun old new (Err e) result = EndsStopped old new (fault_of e) result
 

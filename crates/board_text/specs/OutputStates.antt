@@ -1,9 +1,10 @@
 -- The state of an `Output` in contracts.
 use Rattle.std.specs.Prelude.{◌≡◌, ℕ, ◌+◌, ◌≤◌, Bool, true, false, List, Option, Result, Ok, Err, length}
 use Rattle.recording_io.specs.Tapes.{Calls, CallsWithin, IsSameWriter, WriterRecord, count_written}
+use Rattle.board_text.specs.Streams.{WriteFailed}
 
--- the ghost name of the borrowed writer, that writer when the output was made and now, its contents, the number of
--- interrupted writes that were retried, and whether a write has failed
+-- an output: the ghost name of the writer that it borrows; what that writer had recorded when the output was made, and
+-- has now; its contents; how many interrupted writes were retried; and whether a write has failed
 pub record OutputState : Type 0 where
   pub writer : ℕ
   pub start : WriterRecord
@@ -23,11 +24,15 @@ abbrev pub writes_so_far : ℕ → ℕ → Bool → Calls
 writes_so_far bytes retried false = record { made = bytes + retried; empty = 0; interrupted = retried }
 writes_so_far bytes retried true = record { made = bytes + retried + 1; empty = 1; interrupted = retried + 1 }
 
--- a writer since an output was made over it
+-- a writer since an output was made over it: the same one, with no more calls than its bytes and retries allow, none
+-- forgotten, and one that failed for good if a write has failed
 pub record IsWrittenBy (start now : WriterRecord) (retried : ℕ) (failed : Bool) : Type 0 where
   pub same : IsSameWriter start now
   pub grown : length start.bytes ≤ length now.bytes
   pub calls : CallsWithin (writes_so_far (count_written start now) retried failed) start.calls now.calls
+  pub empty_grown : start.calls.empty ≤ now.calls.empty
+  pub retries : start.calls.interrupted + retried ≤ now.calls.interrupted
+  pub failure : failed ≡ true → WriteFailed start.calls now.calls
 
 -- at most `count` writes, and one more for each interruption that was retried
 abbrev pub CallsAtMost : OutputState → OutputState → ℕ → Type 0

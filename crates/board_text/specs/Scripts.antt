@@ -1,13 +1,14 @@
 -- A script carried out record by record: the lines that it prints, and how it ends.
 use Rattle.std.specs.Prelude.{ℕ, ◌+◌, List, [], ◌∷◌, ◌++◌, Result, Ok, Err}
 use Rattle.std.specs.Result.{result_err}
+use Rattle.csv.specs.Reading.{default_config, records, strip_bom}
 use Rattle.council_core.specs.Ledgers.{Ledger}
 use Rattle.council_core.specs.declared.refusals.Refusal.{Refusal}
 use Rattle.board_text.specs.Lines.{LineBytes}
 use Rattle.board_text.specs.Requests.{Row}
 use Rattle.board_text.specs.declared.bounds.Limits.{Limits}
 use Rattle.board_text.specs.declared.faults.Fault.{Fault}
-use Rattle.board_text.specs.Text.{Started, Run, started_of, fault_at}
+use Rattle.board_text.specs.Text.{Started, Run, started_after, started_of, fault_at, preamble_of}
 
 -- the effect of what is asked for on a state: the lines that it prints, and the state after it
 abbrev pub Effect : Type 0 → Type 0 → Type 0
@@ -50,6 +51,12 @@ started_course interpret (Ok b) = interpret b
 abbrev pub course_of_script : {S A : Type 0} → (Limits → Ledger → S) → (Limits → Row → Result A Refusal)
     → Effect S A → Limits → Started → Course S
 course_of_script opened parsed effect lim b = script_course (parsed lim) effect (opened lim b.0) b.1 b.2
+
+-- the course of the records of a text, of which no byte is missing
+abbrev pub text_course : {S A : Type 0} → (Limits → Ledger → S) → (Limits → Row → Result A Refusal) → Effect S A
+    → Limits → List ℕ → Course S
+text_course opened parsed effect lim text = started_course (course_of_script opened parsed effect lim)
+    (started_after lim (preamble_of (records default_config (strip_bom text))))
 
 -- the course of these bytes, for an interpreter that opens its state, parses and carries out so
 abbrev pub interpreted_course : {S A : Type 0} → (Limits → Ledger → S) → (Limits → Row → Result A Refusal)

@@ -1,5 +1,5 @@
 -- Bounds on the reads and the writes of a run.
-use Rattle.std.specs.Prelude.{◌≡◌, ◌⊎◌, ℕ, ◌+◌, Result, Ok, Err}
+use Rattle.std.specs.Prelude.{◌≡◌, ◌⊎◌, ℕ, ◌+◌, ◌<◌, Result, Ok, Err}
 use Rattle.council_core.specs.declared.refusals.Refusal.TheVariants as refusal
 use Rattle.board_text.specs.Text.{fault_at}
 use Rattle.board_text.specs.declared.faults.Fault.{Fault}
@@ -25,6 +25,11 @@ most_writes bytes = record { made = bytes + INTERRUPTIONS + 1; empty = 1; interr
 -- a writer was asked for no more writes than the bytes that it accepted allow
 abbrev pub WritesWithin : WriterRecord → WriterRecord → Type 0
 WritesWithin from to = CallsWithin (most_writes (count_written from to)) from.calls to.calls
+
+-- a write failed for good: it accepted no byte and wasn't interrupted, or more writes were interrupted than are
+-- retried
+abbrev pub WriteFailed : Calls → Calls → Type 0
+WriteFailed from to = (from.empty < to.empty) ⊎ (from.interrupted + INTERRUPTIONS < to.interrupted)
 
 -- a read failed
 abbrev pub IsReadFault : Stop → Type 0

@@ -34,9 +34,11 @@ pub record Run : Type 0 where
 abbrev pub fault_at : Refusal → ℕ → Fault
 fault_at why number = record { code = code_of why; place = number }
 
+-- a run without lines that ends in this fault
 abbrev pub stopped_run : Fault → Run
 stopped_run f = record { lines = []; end = Some f }
 
+-- a run of these lines that no fault ends
 abbrev pub printed_run : List LineBytes → Run
 printed_run ls = record { lines = ls; end = None }
 
@@ -48,6 +50,7 @@ with_lines ls r = record { lines = ls ++ r.lines; end = r.end }
 abbrev pub line_text : LineBytes → List ℕ
 line_text l = l ++ 10 ∷ []
 
+-- the text of these lines
 abbrev pub text_of : List LineBytes → List ℕ
 text_of ls = flat_map line_text ls
 
@@ -102,6 +105,7 @@ unfoldable pub members_before : List Row → Opening
 members_before rows = filter_map member_of (before_first is_no_member (take MAX_MEMBERS (before_mark rows)))
 
 -- a register with these members and an empty journal
+-- the ledger of a register that starts with these members
 abbrev pub ledger_at_start : Limits → Opening → Ledger
 ledger_at_start lim members = record { opening = members; journal = []; limit = lim.journal }
 
@@ -109,10 +113,12 @@ ledger_at_start lim members = record { opening = members; journal = []; limit = 
 abbrev pub Started : Type 0
 Started = Ledger × ℕ × List Row
 
+-- the start after a preamble, where the register may start, or its refusal
 abbrev pub started_with : Limits → Result ⊤ Refusal → Preamble → Result Started Fault
 started_with lim (Err why) p = Err (fault_at why 0)
 started_with lim (Ok u) p = Ok (ledger_at_start lim p.0, p.1, p.2)
 
+-- the start after a preamble, or its fault, or the refusal of the register
 abbrev pub started_after : Limits → Result Preamble Fault → Result Started Fault
 started_after lim (Err f) = Err f
 started_after lim (Ok p) = started_with lim (start_verdict p.0 lim.journal) p
@@ -145,6 +151,7 @@ started_of lim bytes =
 abbrev pub unpublished_register : Ledger → Sequential
 unpublished_register ledger = record { ledger = ledger; published = 0 }
 
+-- the line of the fault that ends a run, if one does
 abbrev pub end_lines : Option Fault → List LineBytes
 end_lines None = []
 end_lines (Some f) = fault_line f ∷ []

@@ -12,7 +12,7 @@ use recording_io::Recorder;
 // Writes the line of a fault and returns that fault, or `WriteFault` at 0 if the line could not be
 // written.
 fn end_with<W: Recorder>(out: &mut Output<'_, W>, fault: Fault) -> Fault
-    ensures ends { Ends out.old.contents out.new.contents fault result }
+    ensures ends { Ends out.old out.new fault result }
     ensures same_output { IsSameOutput out.old out.new }
 {
     match out.write_line(line_of_fault(fault)) {
@@ -32,7 +32,7 @@ pub fn end_run<T: Drop, W: Recorder>(
     out: &mut Output<'_, W>,
     carried: Result<T, Stop>,
 ) -> Result<T, Fault>
-    ensures ends { EndsRun out.old.contents out.new.contents carried result }
+    ensures ends { EndsRun out.old out.new carried result }
     ensures same_output { IsSameOutput out.old out.new }
 {
     let stop = match carried {

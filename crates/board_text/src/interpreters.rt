@@ -4,16 +4,14 @@ ghost use Rattle.std.specs.Prelude.{IfOk, IfErr, IsErrOf, OnOk, IsOkUnless};
 ghost use Rattle.recording_io.specs.Tapes.{OfInput};
 ghost use Rattle.council_core.specs.declared.refusals.Refusal.{Refusal};
 ghost use Rattle.council_core.specs.declared.refusals.Refusal.TheVariants as refusal;
-ghost use Rattle.csv.specs.Reading.{default_config, records, strip_bom};
 ghost use Rattle.csv.specs.Records.{fields_of};
 ghost use Rattle.council_core.specs.Ledgers.{Ledger};
 ghost use Rattle.board_text.specs.Streams.{IsReadFault, RunsWithin, most_reads};
 ghost use Rattle.board_text.specs.Output.{IsMemoryOrWrite, WritesRun};
 ghost use Rattle.board_text.specs.OutputStates.{IsSameOutput};
 ghost use Rattle.board_text.specs.Requests.{Row};
-ghost use Rattle.board_text.specs.Scripts.{Effect, started_course, course_of_script, interpreted_course};
-ghost use Rattle.board_text.specs.Scripts.{run_in, script_course};
-ghost use Rattle.board_text.specs.Text.{started_after, fault_at, in_range, preamble_of, printed_run};
+ghost use Rattle.board_text.specs.Scripts.{Effect, interpreted_course, run_in, script_course, text_course};
+ghost use Rattle.board_text.specs.Text.{fault_at, in_range, printed_run};
 ghost use Rattle.board_text.specs.declared.bounds.Limits.{Limits};
 ghost use Rattle.board_text.specs.declared.stops.Stop.TheVariants as stop;
 
@@ -99,7 +97,7 @@ pub trait Interpreter: Sized + Drop {
         ensures wrote { WritesRun out.old.contents out.new.contents result
             (printed_run (effect self.old asked).0) }
         ensures state { OnOk result (self.new ≡ (effect self.old asked).1) }
-        ensures causes { IfErr result IsMemoryOrWrite }
+        ensures causes { IfErr result (IsMemoryOrWrite out.new) }
         ensures same_output { IsSameOutput out.old out.new };
 }
 
@@ -117,6 +115,7 @@ fn interpret_script<I: Interpreter, W: Recorder>(
         (run_in (script_course (I.parsed limits) I.effect interpreter first script.old)) }
     ensures ended { IfOk result
         (λ i. (script_course (I.parsed limits) I.effect interpreter first script.old).end ≡ Ok i) }
+    ensures write_fault { IsErrOf result stop.WriteFault → out.new.failed ≡ true }
     ensures same_output { IsSameOutput out.old out.new }
 {
     let mut number = first;
@@ -143,11 +142,10 @@ fn interpret_text<I: Interpreter, W: Recorder>(
     requires short { length text.now ≤ INPUT_LIMIT }
     requires in_range { in_range limits ≡ true }
     ensures wrote { WritesRun out.old.contents out.new.contents result
-        (run_in (started_course (course_of_script I.opened I.parsed I.effect limits)
-        (started_after limits (preamble_of (records default_config (strip_bom text.now)))))) }
+        (run_in (text_course I.opened I.parsed I.effect limits text.now)) }
     ensures ended { IfOk result
-        (λ i. (started_course (course_of_script I.opened I.parsed I.effect limits)
-        (started_after limits (preamble_of (records default_config (strip_bom text.now))))).end ≡ Ok i) }
+        (λ i. (text_course I.opened I.parsed I.effect limits text.now).end ≡ Ok i) }
+    ensures write_fault { IsErrOf result stop.WriteFault → out.new.failed ≡ true }
     ensures same_output { IsSameOutput out.old out.new }
 {
     let mut script = Script::new(alloc, text);
@@ -177,6 +175,7 @@ pub fn interpret<I: Interpreter, R: Read + Drop, W: Recorder>(
     ensures limits_first { in_range limits ≡ false
         → IsErrOf result (stop.Fault (fault_at refusal.BadLimit 0)) × (input.new ≡ input.old) }
     ensures reads { RunsWithin IsReadFault most_reads input.old.calls input.new.calls result }
+    ensures write_fault { IsErrOf result stop.WriteFault → out.new.failed ≡ true }
     ensures same_output { IsSameOutput out.old out.new }
 {
     let text = read_within(alloc, input, limits)?;

@@ -1,6 +1,6 @@
 //! Reads the preamble: the records before the script.
 ghost use Rattle.std.specs.Prelude.{◌≡◌, ◌≤◌, ◌<◌, ◌+◌, ◌^◌, [], Ok, length, IfOk, IfErr};
-ghost use Rattle.board_text.specs.Output.{Fails, ReadTo};
+ghost use Rattle.board_text.specs.Output.{StopsReading, ReadTo};
 ghost use Rattle.board_text.specs.Text.{members_before, members_in, preamble_of, preamble_after_header};
 
 use crate::requests::{is_header_row, is_mark_row, member_in};
@@ -19,7 +19,7 @@ fn read_members(
     requires none { members.old.items ≡ [] }
     requires short { length script.old < 2 ^ 31 }
     ensures preamble { IfOk result (λ n. preamble_after_header script.old ≡ Ok (members.new.items, n, script.new)) }
-    ensures fault { IfErr result (λ e. Fails e (preamble_after_header script.old)) }
+    ensures fault { IfErr result (λ e. StopsReading e (preamble_after_header script.old)) }
     ensures members { ReadTo result members.new.items (members_before script.old) }
     ensures numbers { IfOk result (λ n. n + length script.new ≤ 2 + length script.old) }
 {
@@ -43,7 +43,8 @@ fn read_members(
 }
 
 /// Reads the preamble: the header, and the members' records up to the mark and including it.
-/// Returns the number of the next record. What was read before an error stays in `members`, which was empty.
+/// Returns the number of the next record. What was read before an error stays in `members`, which
+/// was empty.
 ///
 /// # Errors
 ///
@@ -56,7 +57,7 @@ pub fn read_preamble(
     requires none { members.old.items ≡ [] }
     requires short { length script.old < 2 ^ 31 }
     ensures preamble { IfOk result (λ n. preamble_of script.old ≡ Ok (members.new.items, n, script.new)) }
-    ensures fault { IfErr result (λ e. Fails e (preamble_of script.old)) }
+    ensures fault { IfErr result (λ e. StopsReading e (preamble_of script.old)) }
     ensures members { ReadTo result members.new.items (members_in script.old) }
     ensures numbers { IfOk result (λ n. n + length script.new < 2 ^ 32) }
 {

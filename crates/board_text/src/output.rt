@@ -4,7 +4,7 @@ ghost use Rattle.std.specs.Io.KnownBytes.{Appends};
 ghost use Rattle.recording_io.specs.Tapes.{IsSameWriter};
 ghost use Rattle.board_text.specs.Output.{AppendsFront, Writes, WritesSome};
 ghost use Rattle.board_text.specs.OutputStates.{CallsAtMost, IsSameOutput, EachWriteAccepts};
-ghost use Rattle.board_text.specs.Streams.{WritesWithin};
+ghost use Rattle.board_text.specs.Streams.{WriteFailed, WritesWithin};
 ghost use Rattle.board_text.specs.Text.{line_text};
 
 use crate::input::INTERRUPTIONS;
@@ -75,6 +75,7 @@ impl<'a, W: Recorder> Output<'a, W> {
         ensures contents { Some (W.recorded result.now).bytes ≡ self.entry.contents }
         ensures same { IsSameWriter self.entry.start (W.recorded result.now) }
         ensures writes { WritesWithin self.entry.start (W.recorded result.now) }
+        ensures failure { self.entry.failed ≡ true → WriteFailed self.entry.start.calls (W.recorded result.now).calls }
     {
         let Output { out, .. } = self;
         out
@@ -151,6 +152,7 @@ impl<'a, W: Recorder> Output<'a, W> {
         ensures written { Writes self.old.contents self.new.contents result (line_text line) }
         ensures calls { CallsAtMost self.old self.new (length (line_text line)) }
         ensures accepts { EachWriteAccepts self.old self.new result }
+        ensures failed { IfErr result (λ _. self.new.failed ≡ true) }
         ensures same_output { IsSameOutput self.old self.new }
     {
         line.end();

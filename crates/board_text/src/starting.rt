@@ -4,7 +4,7 @@ ghost use Rattle.std.specs.Prelude.{IfOk, IfErr, IsErrOf, OnOk};
 ghost use Rattle.recording_io.specs.Tapes.{CallsWithin, OfInput};
 ghost use Rattle.council_core.specs.declared.refusals.Refusal.TheVariants as refusal;
 ghost use Rattle.board_text.specs.Streams.{most_reads_by};
-ghost use Rattle.board_text.specs.Output.{Fails, Starts};
+ghost use Rattle.board_text.specs.Output.{StopsReading, Starts};
 ghost use Rattle.board_text.specs.Text.{started_of, started_after, fault_at, in_range, preamble_of};
 ghost use Rattle.board_text.specs.declared.stops.Stop.TheVariants as stop;
 
@@ -47,7 +47,8 @@ pub fn read_within<R: Read + Drop>(
     ensures fits { IfOk result (λ text. length text.items ≤ INPUT_LIMIT) }
     ensures in_range { OnOk result (in_range limits ≡ true) }
     ensures reads { CallsWithin (most_reads_by result) input.old.calls input.new.calls }
-    ensures fault { IfErr result (λ e. OfInput input.old input.new (λ bytes. Fails e (started_of limits bytes))) }
+    ensures fault { IfErr result
+        (λ e. OfInput input.old input.new (λ bytes. StopsReading e (started_of limits bytes))) }
     ensures limits_first { in_range limits ≡ false
         → IsErrOf result (stop.Fault (fault_at refusal.BadLimit 0)) × (input.new ≡ input.old) }
 {
@@ -94,7 +95,7 @@ pub fn start_script(
     // The contents of the records, or the first fault in them.
     ensures start { IfOk result
         (λ b. started_after limits (preamble_of script.old) ≡ Ok (b.register, b.first, script.new)) }
-    ensures fault { IfErr result (λ e. Fails e (started_after limits (preamble_of script.old))) }
+    ensures fault { IfErr result (λ e. StopsReading e (started_after limits (preamble_of script.old))) }
 
     // The register is at its start, and the remaining records can be numbered.
     ensures empty { IfOk result (λ b. b.register.journal ≡ []) }

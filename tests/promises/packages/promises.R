@@ -43,7 +43,7 @@ register <- function() {
   }
   why <- tryCatch(board_submit(board, "suspend,AAA\nsuspend,AAA"), board_refused = identity)
   write_line("submit: ", why$number, " ", why$name, ", and ", board_accepted(board), " accepted")
-  other <- board_what_if(board)
+  other <- board_copy(board)
   write_line("what if: ", board_accepted(board_move(other, "DDD", 1)))
   show_board(board_indices(other, "half"))
   write_line("undo: ", board_accepted(board_undo(board)))

@@ -53,7 +53,7 @@ function register() {
     assert(why instanceof Refused);
     console.log(`submit: ${why.number} ${why.code}, and ${board.accepted} accepted`);
   }
-  const other = board.whatIf();
+  const other = board.copy();
   console.log("what if:", other.move("DDD", 1));
   show(other.indices("half"));
   console.log("undo:", board.undo());

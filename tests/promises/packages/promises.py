@@ -51,7 +51,7 @@ def register() -> None:
         board.submit("suspend,AAA\nsuspend,AAA")
     except Refused as why:
         print(f"submit: {why.number} {why.name}, and {board.accepted} accepted")
-    other = board.what_if()
+    other = board.copy()
     print("what if:", other.move("DDD", 1))
     show(other.indices("half"))
     print("undo:", board.undo())

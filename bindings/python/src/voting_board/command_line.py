@@ -32,9 +32,21 @@ def say(command: str, lines: Iterable[str]) -> None:
         print(printable(f"{command}: {line}"), file=sys.stderr)
 
 
+def arguments(parser: argparse.ArgumentParser) -> argparse.Namespace:
+    """The arguments of a command. Help and the version end it with 0, even where they can't be written."""
+    try:
+        try:
+            return parser.parse_args()
+        finally:
+            print(end="", flush=True)
+    except OSError:
+        os.dup2(os.open(os.devnull, os.O_WRONLY), 1)
+        sys.exit(0)
+
+
 def ended(parser: argparse.ArgumentParser, make: Callable[[argparse.Namespace], None]) -> int:
     """Runs a command, and returns its status: 1 with a message if something is wrong, and then nothing was written."""
-    given, command = parser.parse_args(), parser.prog
+    given, command = arguments(parser), parser.prog
     if isinstance(sys.stdout, io.TextIOWrapper):
         sys.stdout.reconfigure(errors="backslashreplace")
     try:

@@ -2,7 +2,7 @@
 
 from typing import Literal
 
-VERSION = "0.11.0"
+VERSION = "1.0.0"
 CHAIRS = 32
 MEMBERS = 256
 COMMANDS = 1_000_000

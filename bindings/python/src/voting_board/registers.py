@@ -182,7 +182,7 @@ class Register:
         >>> register = Register({"AAA": 50, "BBB": 49, "CCC": 1})
         >>> register.submit(["open,1", "open,2", "move,AAA,1", "move,BBB,2", "move,CCC,2"])
         5
-        >>> other = register.what_if()
+        >>> other = register.copy()
         >>> other.set_votes("CCC", 9)
         6
         >>> [str(chair.share) for chair in other.indices("half").chairs]
@@ -372,7 +372,7 @@ class Register:
             text = text_of_commands(commands)
             first = next(pieces(text, PREFIX, READERS))
             if not first.is_one or next(first.records.words(KIND)) in (PUBLISH, READ):
-                self.what_if()._submit(text)
+                self.copy()._submit(text)
                 return None
             words = first.records.items[0].command
             with self._used():
@@ -383,12 +383,10 @@ class Register:
             return why
         return None
 
-    def what_if(self) -> Register:
+    def copy(self) -> Register:
         """A copy, to change while this register stays as it is."""
         with self._used():
             return self._of(copied(self._handle, COMMANDS), self._limit)
-
-    copy = what_if
 
     def undo(self, to: Optional[Whole] = None) -> int:
         """Goes back to the first `to` accepted commands, by default without the last one, and returns their number.
@@ -519,10 +517,10 @@ class Register:
             yield command_of(words)
 
     def __copy__(self) -> Register:
-        return self.what_if()
+        return self.copy()
 
     def __deepcopy__(self, memo: object) -> Register:
-        return self.what_if()
+        return self.copy()
 
     def __reduce__(self) -> tuple[object, ...]:
         handle = self._handle

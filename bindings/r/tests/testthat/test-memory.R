@@ -117,7 +117,7 @@ test_that("copies that nothing refers to are freed without a call of gc", {
   before <- resident()
   most <- 0
   for (times in 1:200) {
-    what <- board_what_if(r)
+    what <- board_copy(r)
     most <- max(most, resident())
   }
   expect_lt(most - before, 3e8)

@@ -60,7 +60,7 @@ test_that("commands return the register, so they follow each other in a pipe", {
     shown <- withVisible(call(r))
     expect_identical(shown, list(value = r, visible = FALSE))
   }
-  what <- board_what_if(r) |> board_move("CCC", 2) |> board_indices("half")
+  what <- board_copy(r) |> board_move("CCC", 2) |> board_indices("half")
   expect_identical(what$chairs$swings, c(4, 4, 0, 0))
 })
 
@@ -170,7 +170,7 @@ test_that("a copy shares nothing, and undo goes back", {
   r <- board_register(transform(three(), chair_name = c("a", "b", "c")))
   board_publish(r)
   before <- parts(r)
-  other <- board_what_if(r)
+  other <- board_copy(r)
   board_move(other, "CCC", 2)
   expect_identical(board_indices(other, "half")$chairs$swings, c(2, 2, 0))
   expect_identical(board_indices(other, "half")$chairs$name, c("a", "b", "c"))

@@ -1,7 +1,7 @@
 //! The names, limits and sentences of the library. Made by tools/made from the sources: do not edit.
 
 /// The version of the library.
-pub const VERSION: &str = "0.11.0";
+pub const VERSION: &str = "1.0.0";
 /// The most chairs of a board.
 pub const CHAIRS: usize = 32;
 /// The most members of a register at any moment.

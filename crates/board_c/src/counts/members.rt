@@ -34,7 +34,7 @@ fn counted_votes(member: &BoardMember) -> u64
 
 // Whether a member sits in this chair, suspended or not.
 fn sits(member: &BoardMember, chair: u64) -> bool
-    requires some { 0 < chair }
+    requires positive { 0 < chair }
     ensures sits { result ≡ sits_in chair (standing_of member.now) }
 {
     member.chair == chair
@@ -42,7 +42,7 @@ fn sits(member: &BoardMember, chair: u64) -> bool
 
 // The votes that a member adds to the weight of this chair.
 fn votes_in(member: &BoardMember, chair: u64) -> u64
-    requires some { 0 < chair }
+    requires positive { 0 < chair }
     ensures votes { result ≡ votes_in chair (standing_of member.now) }
 {
     if sits(member, chair) {
@@ -54,7 +54,7 @@ fn votes_in(member: &BoardMember, chair: u64) -> u64
 
 // Whether the mask names this chair.
 fn names(mask: u32, chair: u64) -> bool
-    requires some { 0 < chair }
+    requires positive { 0 < chair }
     requires bound { chair ≤ CHAIRS }
     ensures named { result ≡ is_named mask chair }
 {
@@ -80,7 +80,7 @@ fn total_of(members: &[BoardMember]) -> Result<u64, Refusal>
 
 // The word of this chair.
 fn word_of(members: &[BoardMember], mask: u32, chair: u64) -> u64
-    requires some { 0 < chair }
+    requires positive { 0 < chair }
     requires bound { chair ≤ CHAIRS }
     requires small { member_total members.now ≤ MAX_TOTAL }
     ensures word { result ≡ member_word members.now mask chair }

@@ -11,9 +11,10 @@ use std::marker::Model;
 /// The state of a handle with a register.
 pub const LIVE: u64 = 1;
 
-/// A handle, as `struct board_register` in `board.h`: of a register, if its state is `LIVE`.
+/// A handle, as `struct board_register` in `board.h`. It has a register if its state is `LIVE`.
 #[repr(C)]
 pub struct BoardRegister {
+    // The register's box, if the state is `LIVE`.
     pub(crate) at: *mut u8,
     /// `LIVE`, or any other number for a handle without a register.
     pub state: u64,
@@ -38,7 +39,7 @@ impl BoardRegister {
 
     // Takes the register out.
     pub(crate) fn take(&mut self, alloc: Global) -> Loose<PublishedRegister, Global>
-        requires live { self.old.state ≡ 1 }
+        requires live { self.old.state ≡ LIVE }
         ensures { (result.value ≡ self.old.register) × (self.new.state ≡ 0) }
     {
         let at = self.at as *mut PublishedRegister;
@@ -48,10 +49,10 @@ impl BoardRegister {
 
     // Puts a register in. One that was there would be lost: `replace` frees it first.
     pub(crate) fn hold(&mut self, register: Loose<PublishedRegister, Global>)
-        ensures { (self.new.register ≡ register.value) × (self.new.state ≡ 1) }
+        ensures { (self.new.register ≡ register.value) × (self.new.state ≡ LIVE) }
     {
         let Loose { at, alloc: _ } = register;
         self.at = at as *mut u8;
-        self.state = 1;
+        self.state = LIVE;
     }
 }

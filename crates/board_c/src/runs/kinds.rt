@@ -1,7 +1,7 @@
 //! The two kinds of run.
-ghost use Rattle.std.specs.Prelude.{◌≡◌, Some};
+ghost use Rattle.std.specs.Prelude.{⊤};
 ghost use Rattle.recording_io.specs.Tapes.{IsSameWriter, OfInput};
-ghost use Rattle.board_runs.specs.Ended.{WritesOutput};
+ghost use Rattle.board_runs.specs.Ended.{WritesOutput, RecordsOutput};
 ghost use Rattle.board_runs.specs.Replays.{run_of};
 ghost use Rattle.board_runs.specs.Traces.{trace_of};
 ghost use Rattle.board_c.specs.Kinds.{run_as};
@@ -29,8 +29,7 @@ fn run_replay<R: Read + Drop, W: Recorder>(
     limits: Limits,
 ) -> Result<(), Fault>
     ensures wrote { OfInput input.old input.new
-        (λ bytes. WritesOutput (Some (W.recorded out.old).bytes) (Some (W.recorded out.new).bytes)
-        result (run_of limits bytes)) }
+        (λ bytes. RecordsOutput (W.recorded out.old) (W.recorded out.new) result (run_of limits bytes)) }
     ensures same { IsSameWriter (W.recorded out.old) (W.recorded out.new) }
 {
     replay(alloc, input, out, limits)
@@ -45,8 +44,7 @@ fn run_trace<R: Read + Drop, W: Recorder>(
     limits: Limits,
 ) -> Result<(), Fault>
     ensures wrote { OfInput input.old input.new
-        (λ bytes. WritesOutput (Some (W.recorded out.old).bytes) (Some (W.recorded out.new).bytes)
-        result (trace_of limits bytes)) }
+        (λ bytes. RecordsOutput (W.recorded out.old) (W.recorded out.new) result (trace_of limits bytes)) }
     ensures same { IsSameWriter (W.recorded out.old) (W.recorded out.new) }
 {
     trace(alloc, input, out, limits)
@@ -61,8 +59,7 @@ fn record<R: Read + Drop, W: Recorder>(
     limits: Limits,
 ) -> Result<(), Fault>
     ensures wrote { OfInput input.old input.new
-        (λ bytes. WritesOutput (Some (W.recorded out.old).bytes) (Some (W.recorded out.new).bytes)
-        result (run_as kind limits bytes)) }
+        (λ bytes. RecordsOutput (W.recorded out.old) (W.recorded out.new) result (run_as kind limits bytes)) }
     ensures same { IsSameWriter (W.recorded out.old) (W.recorded out.new) }
 {
     match kind {
@@ -71,7 +68,8 @@ fn record<R: Read + Drop, W: Recorder>(
     }
 }
 
-// Runs an input, and writes the lines of the run.
+// Runs an input, and writes the lines of the run. The contents of `out` are known, but not its
+// writes, so no fact says that one failed: `⊤`.
 pub(crate) fn carry_out<R: Read + Drop, W: Write>(
     alloc: Global,
     kind: Kind,
@@ -80,7 +78,7 @@ pub(crate) fn carry_out<R: Read + Drop, W: Write>(
     limits: Limits,
 ) -> Result<(), Fault>
     ensures wrote { OfInput input.old input.new
-        (λ bytes. WritesOutput (W.contents out.old) (W.contents out.new) result (run_as kind limits bytes)) }
+        (λ bytes. WritesOutput ⊤ (W.contents out.old) (W.contents out.new) result (run_as kind limits bytes)) }
 {
     let mut recorder = RecordingWriter::new(out);
     let result = record(alloc, kind, input, &mut recorder, limits);

@@ -24,7 +24,7 @@ pub(crate) struct Shown {
 }
 
 impl Shown {
-    // Writes the count and the number of the fault's record, and returns the number to return.
+    // Writes the count and the number of the fault's record, and returns the result of the call.
     pub(crate) fn tell(&self, count: &mut u64, place: &mut u32) -> u8
         ensures count { count.new ≡ self.now.count }
         ensures place { place.new ≡ record_of self.now.end }

@@ -16,7 +16,7 @@ returns-in-Err-clause-answers g c = inr (c.explain.ensures.answered (map string_
 pub returns-in-Ok-run-clause-calls : goal.returns-in-Ok-run-clause-calls
 returns-in-Ok-run-clause-calls g c = λ call asks bytes is.
     let same = one-call (map string_bytes c.args.words.now) c.in-Ok.call call c.in-Ok.ensures.answers asks in
-    let P : Invocation → Type 0 = λ x. CallEnds x bytes (Some (g.W.Recorder.recorded c.args.out.now).bytes) (Some (g.W.Recorder.recorded c.run.new.out).bytes) (Ok tt) in
+    let P : Invocation → Type 0 = λ x. CallEnds x bytes (g.W.Recorder.recorded c.args.out.now) (g.W.Recorder.recorded c.run.new.out) (Ok tt) in
     inl (refl, subst P same (c.in-Ok-run.ensures.ends bytes is), Keeps-refl (Some (g.E.Recorder.recorded c.args.err.now).bytes))
 
 pub returns-in-Ok-run-clause-answers : goal.returns-in-Ok-run-clause-answers
@@ -28,7 +28,7 @@ returns-in-Ok-run-clause-unread g c = λ none. absurd (none c.in-Ok.call c.in-Ok
 pub returns-in-Err-run-clause-calls : goal.returns-in-Err-run-clause-calls
 returns-in-Err-run-clause-calls g c = λ call asks bytes is.
     let same = one-call (map string_bytes c.args.words.now) c.in-Ok.call call c.in-Ok.ensures.answers asks in
-    let P : Invocation → Type 0 = λ x. CallEnds x bytes (Some (g.W.Recorder.recorded c.args.out.now).bytes) (Some (g.W.Recorder.recorded c.run.new.out).bytes) (Err c.in-Err-run.fault) in
+    let P : Invocation → Type 0 = λ x. CallEnds x bytes (g.W.Recorder.recorded c.args.out.now) (g.W.Recorder.recorded c.run.new.out) (Err c.in-Err-run.fault) in
     inr (inl (c.fail.ensures.status, (c.in-Err-run.fault, subst P same (c.in-Err-run.ensures.ends bytes is), c.fail.ensures.said)))
 
 pub returns-in-Err-run-clause-answers : goal.returns-in-Err-run-clause-answers

@@ -17,11 +17,8 @@ returns-clause-done g c =
     rw parts.ensures.parts
     (outcome-of (plan_over parts.result.0 (records_of parts.result.1)) work c.in_ok-done.done c.in_ok-answers.answers.items c.in_ok-answers.served seats c.in_ok-done.ensures.done c.in_ok-answers.ensures.collected)
 
-pub returns-clause-records : goal.returns-clause-records
-returns-clause-records g c = rw (c.into_parts-register.ensures.parts, ← c.opening.ensures.members, ← c.in_ok-members.ensures.items, ← c.as_slice.ensures.value) c.in_ok-legal.ensures.legal
-
-pub returns-clause-differs : goal.returns-clause-differs
-returns-clause-differs g c = rw (c.into_parts-register.ensures.parts, ← c.opening.ensures.members, ← c.in_ok-members.ensures.items, ← c.as_slice.ensures.value) c.in_ok-legal.ensures.broken
+pub returns-clause-legal : goal.returns-clause-legal
+returns-clause-legal g c = rw (c.into_parts-register.ensures.parts, ← c.opening.ensures.members, ← c.in_ok-members.ensures.items, ← c.as_slice.ensures.value) c.in_ok-legal.ensures.legal
 
 pub returns-in_err-done-clause-stopped : goal.returns-in_err-done-clause-stopped
 returns-in_err-done-clause-stopped g c =

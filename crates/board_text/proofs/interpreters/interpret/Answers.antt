@@ -3,6 +3,7 @@ use Rattle.board_text.specs.Scripts.{course_of_script}
 use Rattle.board_text.proofs.InterpretFacts.{TextRead, start-input, writes-failed_input}
 use Rattle.board_text.specs.Streams.{IsReadFault}
 use Rattle.board_text.proofs.ReadingFacts.{reads-on, reads-passed}
+use Rattle.board_text.proofs.FailureFacts.{blames-input}
 use Rattle.board_text.proofs.interpreters.interpret.Goals as goal
 
 pub returns-in_err-text-clause-wrote : goal.returns-in_err-text-clause-wrote
@@ -29,3 +30,8 @@ returns-in_err-text-clause-reads g c =
 
 pub returns-clause-reads : goal.returns-clause-reads
 returns-clause-reads g c = reads-on c.args.input.now.calls c.read_within.new.input.calls IsReadFault c.in_ok-text.text c.interpret_text.result c.in_ok-text.ensures.reads
+
+pub returns-in_err-text-clause-write_fault : goal.returns-in_err-text-clause-write_fault
+returns-in_err-text-clause-write_fault g c =
+    let p = err_from_is_err_and c.from_residual.result c.from_residual.ensures.1 in
+    rw p.1 (blames-input c.args.out.now c.in_err-text.field-0.0 p.0 p.2 c.args.input.now c.read_within.new.input c.args.limits c.in_err-text.ensures.fault)

@@ -4,6 +4,7 @@ use Rattle.csv.specs.Records.{fields_of}
 use Rattle.board_text.specs.Scripts.{run_in, script_course}
 use Rattle.board_text.proofs.RunFacts.{left-as, written-none, written-on, writes-broken, writes-nothing, writes-passed, writes-whole}
 use Rattle.board_text.proofs.RecordFacts.{end-as, refused-stops, script-ends, script-goes, script-refused, step-goes, step-stops}
+use Rattle.board_text.proofs.FailureFacts.{blames-read, blames-record, blames-write}
 use Rattle.board_text.proofs.interpreters.interpret_script.Goals as goal
 
 pub records-init : goal.records-init
@@ -59,3 +60,16 @@ returns-in_err-next-clause-wrote g c =
     let so_far = c.records.invariant.so_far in
     let p = err_from_is_err_and c.from_residual.result c.from_residual.ensures.1 in
     rw p.1 (writes-passed _ _ c.in_err-next.field-0.0 p.0 _ p.2 (writes-broken _ _ c.in_err-next.field-0.0 _ _ c.in_err-next.ensures.causes so_far))
+
+pub returns-in-Err-clause-write_fault : goal.returns-in-Err-clause-write_fault
+returns-in-Err-clause-write_fault g c = blames-record c.records.out _ _ c.at.ensures.same
+
+pub returns-in_err-carry_out-clause-write_fault : goal.returns-in_err-carry_out-clause-write_fault
+returns-in_err-carry_out-clause-write_fault g c =
+    let p = err_from_is_err_and c.from_residual-in_err-carry_out.result c.from_residual-in_err-carry_out.ensures.1 in
+    rw p.1 (blames-write c.carry_out.new.out c.in_err-carry_out.field-0.0 p.0 p.2 c.in_err-carry_out.ensures.causes)
+
+pub returns-in_err-next-clause-write_fault : goal.returns-in_err-next-clause-write_fault
+returns-in_err-next-clause-write_fault g c =
+    let p = err_from_is_err_and c.from_residual.result c.from_residual.ensures.1 in
+    rw p.1 (blames-read c.records.out c.in_err-next.field-0.0 p.0 p.2 c.in_err-next.ensures.causes)
