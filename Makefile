@@ -146,7 +146,8 @@ uninstall:  ## removes what `make install` put there
 
 # The parts of the tests. Each prints a line for each test; tools/part counts them, prints 'N passed, M failed', and
 # keeps the output in out/said.
-said = @tools/part $(or $2,$@) $1
+said  = @tools/part $@ $1
+comma := ,
 docs:  ## names, links and made parts of the documents
 	$(call said,tools/check)
 style:  ## how files are written: shellcheck, black, mypy, tsc, clang-format, rustfmt, columns
@@ -218,7 +219,7 @@ page-tests: $(PROGRAM) page  ## board.html in Chromium and Firefox
 release-tests: release $(answers)  ## a release, unpacked and run without the toolchain
 	$(call said,env BOARD_ANSWERS=$(dir $(answers)) tests/run tests/release -n $(JOBS))
 from-text: $(CRATES:%=$O/deep/%.proved)  ## all proofs, the toolchain's too, from their text
-	$(call said,printf '%s proved from its text\n' $(CRATES) "$(words $(CRATES)) passed, 0 failed")
+	$(call said,printf '%s\n' $(CRATES:%='% is proved from its text') '$(words $(CRATES)) passed$(comma) 0 failed')
 
 # The parts that come first, those that need no proof, those that do, which run beside them, and those of the deep gate
 # alone.

@@ -18,8 +18,8 @@ from tests.shared.commands import TOP, Ended, Say, ended
 from tests.shared.libraries import kit
 from tests.shared.sizes import IS_DEEP, drawn, seed
 
-# How many lemmas a module has at most.
-TAKEN = 100
+# How many lemmas a module has at most, and how many modules a crate.
+TAKEN, MODULES = 100, 20
 CRATES = ["board_runs", "board_text", "council_core", "majority_rule", "power_index", "two_copy_steps", "recording_io"]
 CRATES += ["board_serve", "board_share", "board_audits", "c_values"]
 KIT_CRATES = ["std", "csv"]
@@ -144,15 +144,16 @@ def drawn_lemmas() -> dict[str, list[Lemma]]:
 def test_agree(tmp_path: Path, drawn_lemmas: dict[str, list[Lemma]], record_property: Say) -> None:
     # Catches: a definition of a text, of its counts, refusals or faults, of a struct or of an audit that isn't that of
     # the documents.
-    modules = {
-        f"{name}{at}": module(KINDS[name], made[at : at + TAKEN])
+    modules = [
+        (f"{name}{at}", module(KINDS[name], made[at : at + TAKEN]))
         for name, made in drawn_lemmas.items()
         for at in range(0, len(made), TAKEN)
-    }
-    run = checked(tmp_path / "crate", modules)
+    ]
     for name, made in drawn_lemmas.items():
         record_property(name, len(made))
-    assert is_proved(run), run.complaint.decode()[:4_000]
+    for at in range(0, len(modules), MODULES):
+        run = checked(tmp_path / f"crate{at}", dict(modules[at : at + MODULES]))
+        assert is_proved(run), run.complaint.decode()[:4_000]
 
 
 @pytest.mark.deep("that the prover refuses a wrong lemma doesn't depend on the commit")

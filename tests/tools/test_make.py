@@ -79,8 +79,9 @@ def test_the_deep_gate_tries_all_mutations(copy: Copy) -> None:
 
 
 def test_a_check_from_text_is_made_of_each_crate(copy: Copy) -> None:
-    # Catches: a crate that `make from-text` leaves out, or checks over what was checked before.
+    # Catches: a crate that `make from-text` leaves out, or checks over what was checked before; a verdict cut short.
     commands = copy.make("--dry-run", "from-text")
     assert set(re.findall(r"rattle (?:build -o \S+|check) --crate-name (\w+)", commands)) == CRATES
     assert commands.count("/out/deep/cache ") == len(CRATES)
     assert "--logic-built" not in commands
+    assert commands.endswith(f" '{len(CRATES)} passed, 0 failed'\n")

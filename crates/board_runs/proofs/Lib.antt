@@ -1,7 +1,6 @@
 mod EndFacts
 mod DeskFacts
 mod ReplayFacts
-mod RecordedFacts
 mod TraceFacts
 mod ScheduleFacts
 mod ScheduleCases

@@ -23,6 +23,7 @@ pub record ThreadRecords : Type 0 where
 abbrev pub no_records : ThreadRecords
 no_records = record { orders = []; asked = [] ∷ [] ∷ [] }
 
+-- the records that the code keeps, as lists
 abbrev pub records_of : Records → ThreadRecords
 records_of r = record { orders = r.orders.items; asked = map (λ v. v.items) r.asked }
 
@@ -31,6 +32,7 @@ pub record Planned : Type 0 where
   pub start : Sequential
   pub records : ThreadRecords
 
+-- a plan over a register of which nothing is published
 abbrev pub plan_over : Ledger → ThreadRecords → Planned
 plan_over ledger records = record { start = unpublished_register ledger; records = records }
 

@@ -61,7 +61,7 @@ EndsHeldUp p front f =
 abbrev pub EndsMismatched : Planned → List LineBytes → Fault → Type 0
 EndsMismatched p front f = (front ≡ work_lines p) × (f ≡ fault_at refusal.Mismatch 0) × Differs p
 
--- the lines of a run, and the fault that ends it, if any
+-- a run of this plan, or with this fault before it, may print these lines and end in this fault, or in none
 abbrev pub EndsAfter : Result Planned Fault → List LineBytes → Option Fault → Type 0
 EndsAfter (Err g) front None = ⊥
 EndsAfter (Err g) front (Some f) = EndsBeforeThreads g front f ⊎ EndsBroken front f

@@ -52,7 +52,7 @@ IsClosed e = e ≡ stop.Fault (fault_at refusal.GateClosed 0)
 abbrev pub StopsAt : Sequential → Order → Stop → Type 0
 StopsAt s order e = ((e ≡ stop.OutOfMemory) × WouldAccept s order) ⊎ IsClosed e
 
--- it keeps the first of these orders that wasn't carried out from being so
+-- the error stops the writer at one of these orders, after those before it were carried out
 abbrev pub StopsWithin : Sequential → List Order → Stop → Type 0
 StopsWithin s orders e = (place : ℕ) × (order : Order) × (slice_get orders place ≡ Some order)
     × StopsAt (state_after s (map ordered (take place orders))) order e
@@ -63,6 +63,7 @@ pub record ThreadEnds : Type 0 where
   pub first : Option Stop
   pub second : Option Stop
 
+-- how the threads with these three results ended
 abbrev pub ends_of : {A B : Type 0} → Result A Stop → Result B Stop → Result B Stop → ThreadEnds
 ends_of writer first second =
     record { writer = result_err writer; first = result_err first; second = result_err second }
@@ -78,7 +79,7 @@ pub record CanEnd (start : Sequential) (orders : List Order) (ends : ThreadEnds)
 abbrev pub returned_stop : ThreadEnds → Option Stop
 returned_stop ends = option_or ends.writer (option_or ends.first ends.second)
 
--- the error that stops the work of all threads: out of memory, if one can't be started, or the returned one
+-- the error that stops the work of all threads: out of memory, or the returned one
 abbrev pub StopsAll : Sequential → List Order → Stop → Type 0
 StopsAll start orders e =
     (e ≡ stop.OutOfMemory) ⊎ ((ends : ThreadEnds) × CanEnd start orders ends × (returned_stop ends ≡ Some e))
@@ -145,7 +146,7 @@ pub record IsRead (asked : List Majority) (done : ReaderWork) : Type 0 where
   pub count : length done.sheets.items ≡ length asked
   pub winning : done.winning.items ≡ omegas asked done.sheets.items
 
--- the reader took one reading for each record, with omega at the record's majority
+-- one reader did its work: one reading for each record, with omega at the record's majority
 pub record AreRead (work done : ReaderWork) : Type 0 where
   pub grown : IsReadFrom work.analyst done
   pub read : IsRead work.asked.items done

@@ -152,8 +152,8 @@ fn start_reader<'s, E, G: Gate>(
     }
 }
 
-// The work of all threads if all have done theirs, or else the first error: the
-// writer's, that of reader 1, that of reader 2.
+// The work of all threads if all have done theirs, or else the first error: the writer's, that of reader 1, that of
+// reader 2.
 fn all_done(
     writer: Result<WriterWork, Stop>,
     first: Result<ReaderWork, Stop>,

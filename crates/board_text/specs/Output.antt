@@ -64,7 +64,8 @@ StopsReading stop.ReadFault spec = Unit {0}
 StopsReading stop.WriteFault spec = ⊥
 StopsReading (stop.Fault f) spec = spec ≡ Err f
 
--- what was read of `all`: all of it, or a prefix if memory ran out
+-- what was read of `all`: all of it, also where its records have a fault, or a prefix where memory ran out or a device
+-- failed
 abbrev pub ReadTo : {T A : Type 0} → Result T Stop → List A → List A → Type 0
 ReadTo (Ok _) got all = got ≡ all
 ReadTo (Err (stop.Fault f)) got all = got ≡ all

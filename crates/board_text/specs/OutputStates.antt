@@ -13,8 +13,8 @@ pub record OutputState : Type 0 where
   pub retried : ℕ
   pub failed : Bool
 
--- between two states of a run: the writer is the same, and the number of retried interruptions has
--- not decreased
+-- two states of one output: the writer and its record at the start are the same, and no fewer interruptions have been
+-- retried in the new state
 abbrev pub IsSameOutput : OutputState → OutputState → Type 0
 IsSameOutput old new =
     (new.writer ≡ old.writer) × (new.start ≡ old.start) × (old.retried ≤ new.retried)

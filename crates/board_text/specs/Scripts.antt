@@ -52,7 +52,7 @@ abbrev pub course_of_script : {S A : Type 0} → (Limits → Ledger → S) → (
     → Effect S A → Limits → Started → Course S
 course_of_script opened parsed effect lim b = script_course (parsed lim) effect (opened lim b.0) b.1 b.2
 
--- the course of the records of a text, of which no byte is missing
+-- the course of the records of a whole text, whose length and limits aren't checked here
 abbrev pub text_course : {S A : Type 0} → (Limits → Ledger → S) → (Limits → Row → Result A Refusal) → Effect S A
     → Limits → List ℕ → Course S
 text_course opened parsed effect lim text = started_course (course_of_script opened parsed effect lim)

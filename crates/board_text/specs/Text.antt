@@ -63,7 +63,7 @@ abbrev pub is_served : Limits → Request → Bool
 is_served lim (ask.Read reader m) = is_reader lim reader
 is_served lim (ask.Order o) = true
 
--- what a record asks for: refused if the record isn't well formed, or if its reader number is out of range
+-- a value that is there and fits; else a record that isn't well formed, or a reader number out of range
 abbrev pub valid_or_refused : {A : Type 0} → (A → Bool) → Option A → Result A Refusal
 valid_or_refused fits None = Err BadRecord
 valid_or_refused fits (Some a) = if fits a then Ok a else Err BadReader
@@ -104,8 +104,7 @@ preamble_after_header rows =
 unfoldable pub members_before : List Row → Opening
 members_before rows = filter_map member_of (before_first is_no_member (take MAX_MEMBERS (before_mark rows)))
 
--- a register with these members and an empty journal
--- the ledger of a register that starts with these members
+-- the ledger of a register that starts with these members and an empty journal
 abbrev pub ledger_at_start : Limits → Opening → Ledger
 ledger_at_start lim members = record { opening = members; journal = []; limit = lim.journal }
 
