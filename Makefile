@@ -249,9 +249,8 @@ gate:  ## all that must pass before a change lands
 	+@$(call judged,"$(FIRST)" "unproved proved",,$(FIRST) $(UNPROVED) $(PROVED))
 deep: export GATE := 1
 deep: export DEEP := 1
-deep:  ## everything in full, before a release: some hours
-	+@$(call judged,"$(FIRST)" "unproved proved" "$(DEEPER)" edits from-text,,\
-	  $(FIRST) $(UNPROVED) $(PROVED) $(DEEPER) from-text)
+deep:  ## all tests in full, before a release: some hours
+	+@$(call judged,"$(FIRST)" "unproved proved" "$(DEEPER)",,$(FIRST) $(UNPROVED) $(PROVED) $(DEEPER))
 clean:  ## removes all results
 	@rm -rf $O {portable/wasm,page,portable}/out
 help:  ## this list

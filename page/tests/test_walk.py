@@ -4,6 +4,7 @@ from __future__ import annotations
 import json
 import random
 
+import pytest
 from chromium import EVERY, Page
 from operations import Walk, drawn
 from oracle import MAJORITIES, Oracle
@@ -14,8 +15,8 @@ from voting_board.saved_studies import command_of
 from voting_board.study_files import page_data
 
 BROWSERS = EVERY
-ACTS, EACH = sizes.drawn(40, 400), 4
-LEAST_COMPARED = sizes.drawn(15_000, 100_000)
+WALKS, ACTS, EACH = sizes.drawn(1, 10), 40, 4
+LEAST_COMPARED = 15_000
 
 
 def check_in_python(page: Page, oracle: Oracle, commands: list[str]) -> int:
@@ -39,9 +40,10 @@ def check_in_python(page: Page, oracle: Oracle, commands: list[str]) -> int:
     return many
 
 
-def test_a_random_walk(page: Page, oracle: Oracle, record_property: Say) -> None:
+@pytest.mark.parametrize("part", range(WALKS))
+def test_a_random_walk(page: Page, oracle: Oracle, part: int, record_property: Say) -> None:
     # Catches: any sequence of operations and changes after which the page shows other numbers than its script gives.
-    some, walk, compared, taken = random.Random(sizes.seed()), Walk(), 0, 0
+    some, walk, compared, taken = random.Random(sizes.seed() + part), Walk(), 0, 0
     page.click("#tab-table")
     while taken < ACTS:
         act = drawn(some, walk, oracle)

@@ -11,8 +11,7 @@ import pytest
 from tests.shared.commands import TOP
 
 RT = """#!/bin/sh
-[ "$*" = ci ] || exit 2
-sort crates.txt; ls; ls crates/low
+echo "rt $*"; sort crates.txt; ls; ls crates/low
 mkdir -p crates/low/out/rlib/low.rlib crates/top/out
 echo "$LOW" >crates/low/out/rlib/low.rlib/format; echo "$LOW" >crates/top/out/top
 echo "== low"; echo "why"; echo "rt: low $LOW"; echo "rt: top is kept: an earlier run"
@@ -37,7 +36,7 @@ def top(tmp_path: Path) -> Path:
 
 
 def proved(top: Path, *crates: str, **more: str) -> tuple[int, list[str]]:
-    environment = {**os.environ, "PATH": f"{top.parent}:{os.environ['PATH']}", "LOW": "proved", **more}
+    environment = {**os.environ, "PATH": f"{top.parent}:{os.environ['PATH']}", "DEEP": "", "LOW": "proved", **more}
     done = subprocess.run([top / "tools" / "prove", *crates], env=environment, capture_output=True, text=True)
     return done.returncode, (done.stdout + done.stderr).splitlines()
 
@@ -49,7 +48,8 @@ def test_what_is_proved(top: Path) -> None:
     assert said[:3] == ["low proved, 1 of 2", "top proved, 2 of 2", "top: its tests are proved"]
     assert said[3].endswith(" processor minutes") and said[4:] == ["2 passed, 0 failed"]
     log = (top / "out" / "prove.log").read_text().splitlines()
-    assert log[: log.index("== low")] == ["low:", "top may_wait=1: low", "HANDLES", "crates", "crates.txt", "src"]
+    asked, *copied = log[: log.index("== low")]
+    assert asked == "rt ci" and copied == ["low:", "top may_wait=1: low", "HANDLES", "crates", "crates.txt", "src"]
     assert (top / "out" / "low.rlib" / "format").read_text() == (top / "out" / "top").read_text() == "proved\n"
 
 
@@ -57,6 +57,12 @@ def test_all_crates_are_proved_with_all_files(top: Path) -> None:
     # Catches: a source that no crate has, and that rt doesn't see.
     assert proved(top, "low", "top", "other")[0] == 0
     assert "tools" in (top / "out" / "prove.log").read_text().splitlines()
+
+
+def test_the_deep_gate_proves_all_from_scratch(top: Path) -> None:
+    # Catches: a proof that the deep gate takes from an earlier run.
+    assert proved(top, "low", "top", DEEP="1")[0] == 0
+    assert (top / "out" / "prove.log").read_text().startswith("rt ci --anew\n")
 
 
 def test_what_is_not_proved_is_shown(top: Path) -> None:
