@@ -1,5 +1,5 @@
-"""The public surface of the library for C and of each package: the names that their sources declare, and the table of
-docs/EMBEDDING.md, which has a row for each thing and every name of each language."""
+"""The public surface of the library for C and of each package: the names that their sources declare, and a table with a
+row for each thing and every name of each language: python3 tools/surface.py prints it."""
 from __future__ import annotations
 
 import ast
@@ -252,3 +252,7 @@ def faults() -> Iterator[str]:
             yield f"the library for {language} has no `{name}`"
         for name in sorted(public.calls - shown):
             yield f"the table has no `{name}` of the library for {language}"
+
+
+if __name__ == "__main__":
+    print(table(), end="")

@@ -1,4 +1,4 @@
-"""Chromium with board.html in it. page/README.md lists the names of the page's parts."""
+"""Chromium with board.html in it. Tests find the parts of the page by their ids."""
 from __future__ import annotations
 
 from collections.abc import Callable

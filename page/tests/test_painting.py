@@ -179,8 +179,8 @@ def test_the_slider_of_per_cent(page: Page) -> None:
 def test_every_kind_of_file_is_offered(page: Page) -> None:
     # Catches: a kind of file that the documents name and that the chooser of "Open…" greys out.
     offered = str(page.at("#file").get_attribute("accept")).split(",")
-    using = (page.file.parent.parent.parent / "docs" / "USING.md").read_text()
-    named = re.findall(r"`(\.[a-z]+)`", using.partition('"Open…" offers ')[2].partition(";")[0])
+    guide = (page.file.parent.parent.parent / "docs" / "PAGE.md").read_text()
+    named = re.findall(r"`(\.[a-z]+)`", guide.partition('"Open…" offers ')[2].partition(";")[0])
     assert sorted(offered) == sorted(named) and {".xlsx", ".htm", ".html", ".csv", ".json"} <= set(offered)
 
 

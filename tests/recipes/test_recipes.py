@@ -1,4 +1,4 @@
-"""The recipes of docs/EMBEDDING.md, USING.md and VALIDATION.md, compared with the output below them; and the records of
+"""The recipes of docs/EMBEDDING.md, STUDIES.md and VALIDATION.md, compared with the output below them; the records of
 docs/FORMATS.md, "Why was my record refused?", with what it says; and README.md's commands for a clone.
 
 The recipes of a document run one after another in a copy of what they use, with the program as ./board and a python3
@@ -55,7 +55,7 @@ class Recipe:
 
 def recipes() -> list[Recipe]:
     found = []
-    for name in ("EMBEDDING.md", "USING.md", "VALIDATION.md"):
+    for name in ("EMBEDDING.md", "STUDIES.md", "VALIDATION.md"):
         text = (TOP / "docs" / name).read_text()
         for block in BLOCK.finditer(text):
             line = text.count("\n", 0, block.start()) + 1

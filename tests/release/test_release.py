@@ -1,7 +1,7 @@
 """A release, made again, unpacked elsewhere and run there without the toolchain: its files, and what its documents say.
 
 The blocks of README.md are run, those of docs/EMBEDDING.md, which call the library from each language, and the recipes
-of docs/USING.md."""
+of docs/STUDIES.md."""
 from __future__ import annotations
 
 import re
@@ -20,7 +20,7 @@ BLOCK = re.compile(rf"^```sh\n{LINES}(?:\n```text\n{LINES})?", re.MULTILINE)
 DOCUMENTS = {
     "README.md": "tools/release/README.md",
     "docs/EMBEDDING.md": "docs/EMBEDDING.md",
-    "docs/USING.md": "docs/USING.md",
+    "docs/STUDIES.md": "docs/STUDIES.md",
 }
 
 
@@ -81,5 +81,5 @@ def test_block(room: Path, name: str, code: str, wanted: str) -> None:
     # Catches: a block that fails, that prints another text than the one below it, or that needs the toolchain.
     assert code in (room / name).read_text()
     # Debian's libraries are those of the system's Python. What a document has pip install goes to that of the PATH.
-    first = "/usr/bin:" if name == "docs/USING.md" else ""
+    first = "/usr/bin:" if name == "docs/STUDIES.md" else ""
     assert ran(["bash", "-eu", "-o", "pipefail", "-c", code], room, PATH=first + path_without("rt")) == wanted

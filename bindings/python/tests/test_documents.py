@@ -30,7 +30,6 @@ def test_readme(monkeypatch: pytest.MonkeyPatch) -> None:
     assert found.attempted > 10 and found.failed == 0
 
 
-@pytest.mark.deep("a landing runs the same in a recipe of docs/USING.md")
 def test_many_boards_on_a_cluster(tmp_path: Path) -> None:
     # Catches: counts that a worker of Dask can't make or send, or that differ from those of one call.
     pytest.importorskip("distributed")
