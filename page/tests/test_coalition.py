@@ -77,7 +77,10 @@ def check_verdict(page: Page, board: Board, coalition: Coalition) -> int:
     assert ticked(page) == coalition
     found = {part: dict(cells) for part, cells in page.run(VERDICTS)}
     wanted = {it: board.verdict(it, coalition) for it in MAJORITIES}
-    assert {part: {it: wanted[it][part] for it in MAJORITIES} for part in wanted["half"]} == found, coalition
+    # Nothing ticked has no table.
+    assert bool(found) == bool(coalition)
+    every = {part: {it: wanted[it][part] for it in MAJORITIES} for part in wanted["half"]}
+    assert not found or every == found, coalition
     chairs = f"{len(coalition)} of {counted(len(board.votes), 'chair')} ticked"
     outcomes = " ".join(f"{WORDS[it]} the coalition {wanted[it]['outcome']}." for it in MAJORITIES)
     votes = f"{board.of(coalition):,} of {board.of(board.votes):,} votes cast"
@@ -103,7 +106,7 @@ def test_verdicts(small: Page) -> None:
     for coalition in [(1, 2), (1, 2, 3), (1, 2, 3, 5), *coalitions(BOARD, 12)]:
         tick(small, coalition)
         compared += check_verdict(small, BOARD, coalition)
-    assert compared > 800
+    assert compared > 750
 
 
 def test_buttons(small: Page) -> None:
@@ -284,6 +287,7 @@ def test_example(page: Page, oracle: Oracle) -> None:
 def test_marks(small: Page) -> None:
     # Catches: a number of the tab that doesn't say whether the register counts it or the page makes it.
     sizes(small)
+    small.click("#tick-all")
     marks = "return [...document.querySelectorAll(arguments[0])].map((it) => it.dataset.mark ?? '');"
     parts = dict(zip([part for part, _ in small.run(VERDICTS)], small.run(marks, "#verdict-table tbody th")))
     assert {part for part, mark in parts.items() if mark == "counted"} == {"quota", "least"}

@@ -87,9 +87,11 @@ def test_sentence(changed: Page, oracle: Oracle) -> None:
     best, worst = max(of, key=lambda it: of[it]), min(of, key=lambda it: of[it])
     names = oracle.table.chair_names
     points = {it: rounded(100 * of[it], 2) for it in (best, worst)}
-    wanted = f"At 85 per cent, in share of power: chair {best} {names[best]} gains most, +{points[best]} percentage "
-    wanted += f"points; chair {worst} {names[worst]} loses most, {points[worst]} percentage points."
-    assert wanted in changed.texts("#sentences p")
+    # It follows the sentence on vetoes.
+    wanted = f"In share of power: chair {best} {names[best]} gains most, +{points[best]} percentage points; "
+    wanted += f"chair {worst} {names[worst]} loses most, {points[worst]} percentage points."
+    [said] = [it for it in changed.texts("#sentences p") if it.startswith("At 85 per cent")]
+    assert said.endswith(wanted) and " gains a veto, with " in said
 
 
 @pytest.mark.parametrize("measure", [it for it in MEASURES if it not in ("swings", "ratio")])

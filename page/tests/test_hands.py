@@ -262,7 +262,7 @@ def test_a_phone(page: Page, finger: Finger) -> None:
     page.press(Keys.ESCAPE)
     assert not page.all("#right.open")
     assert focus(page) == "" and page.run("return document.activeElement.dataset.sheet;") == "right"
-    order = [middle(page, it)[1] for it in ["#tabs", "#choose", "#cards", "#sentences"]]
+    order = [middle(page, it)[1] for it in ["#tabs", "#choose", ".said.main", "#cards", ".said:not(.main)"]]
     assert order == sorted(order)
 
 
@@ -509,7 +509,7 @@ def test_admission(page: Page, oracle: Oracle) -> None:
 
 def test_published_total(page: Page) -> None:
     # Catches: 5,049,012.00 read as 504,901,200; 504.90 read as 50,490; a refused total that is lost or compared.
-    same = "the votes add up to 5,496,435: 447,423 more"
+    same = "the votes add up to 5,767,303: 718,291 more"
     for text in ["5,049,012.00", "5.049.012", "5049012"]:
         page.write("#published", text)
         assert page.text("#published-words") == same, text

@@ -165,7 +165,7 @@ def test_several_members(page: Page, oracle: Oracle) -> None:
       range.dispatchEvent(new Event("input", { bubbles: true }));"""
     )
     page.settle()
-    assert changes(page)[0].startswith("11 members: votes +25 % (XAA Marenia 650,549 → 813,186, ")
+    assert changes(page)[0].startswith("11 members: votes +25 % (XAA Marenia 921,417 → 1,151,771, ")
     check_figures(page, oracle, expected(oracle, f"scale,{'+'.join(codes)},+25%"))
     page.write("#number-1", "1.5")
     check_figures(page, oracle, expected(oracle, f"scale,{'+'.join(codes)},+1.5%"))
@@ -223,6 +223,7 @@ def test_operations_by_finger(page: Page, oracle: Oracle, finger: Finger) -> Non
     assert page.text("#split-words") == "2 of 10 are ticked." and not page.look("wide", 390)
     tap(page, finger, "#split-take")
     says(page, "Chair 10 is split: XAP Galenia and XBW Elsenia → new chair 25.")
+    tap(page, finger, "#add summary")
     tap(page, finger, "#group-open")
     page.until(lambda: page.all("#group"), "the dialog")
     for code in ["XAA", "XAB"]:

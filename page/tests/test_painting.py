@@ -82,7 +82,7 @@ def test_typed_text_stays(page: Page) -> None:
     page.click("#tab-curve")
     assert page.at("#scenario-name").get_property("value") == "Half a na"
     page.run('const it = document.getElementById("sweep-from"); it.focus(); it.setSelectionRange(1, 1);')
-    page.press("5")
+    page.press("50")
     assert page.act("switch", "0")
     page.write("#number-1", "12,500")
     page.click("#at-quorum")

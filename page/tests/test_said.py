@@ -127,16 +127,16 @@ def test_a_curve_has_the_hash_of_its_script(page: Page) -> None:
 def test_a_sweep_is_undone(page: Page) -> None:
     # Catches: a sweep that isn't part of the study, so that undo, and a page with the study in it, forget it.
     sweep(page, "XAD", "base", "10", "20", "5")
+    asked = "return document.getElementById('sweep-by').value;"
     page.click("#undo")
-    assert not page.all("#sweep-table")
+    page.until(lambda: page.run(asked) != "5", "the sweep of the chair in focus")
     page.click("#redo")
-    page.until(lambda: page.all("#sweep-table"), "the sweep")
+    page.until(lambda: page.run(asked) == "5" and page.all("#sweep-table"), "the sweep")
 
 
 def test_sources_and_definitions_stand_where_they_are_used(page: Page) -> None:
     # Catches: terms that are nowhere defined, and shares that don't add up without a word.
-    page.click("#board summary")
-    board = page.text("#board")
+    board = page.text("#board-words")
     assert "A coalition is a set of open chairs." in board and "Power to act: the winning coalitions over all" in board
     title = "Share of power (normalised Banzhaf index)"
     assert page.run('return document.getElementById("measure").parentElement.title;') == title

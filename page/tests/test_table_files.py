@@ -225,7 +225,7 @@ def test_latex_chairs_that_open_and_close(page: Page) -> None:
     assert closed[0] == new[0] == "1" and len(rows) == 25
     # The cells of the closed chair are empty in the changed board, and those of the new one in the base.
     votes, share = slice(-5, -3), slice(-3, None)
-    assert closed[votes] == ["650,549", ""] and closed[share][0] and closed[share][1:] == ["", ""]
+    assert closed[votes] == ["921,417", ""] and closed[share][0] and closed[share][1:] == ["", ""]
     assert new[votes] == ["", "0"] and new[share][0] == "" and new[share][1] and new[share][2] == ""
     assert closed[2] and closed[3:6] == ["", "", ""] and new[2] == "" and new[3] and new[4] == ""
 
@@ -320,10 +320,10 @@ def test_workbook_of_a_sweep(page: Page, oracle: Oracle) -> None:
     page.until(lambda: page.all("#sweep-table"), "the sweep")
     page.settle()
     rows = rows_of(workbook(page)[1]["Table"])
-    wanted = table_of(oracle.study({}, ["half", "85"], "chair 1 10..20 by 0.5 %"))
-    assert len(rows) == len(wanted) == 2 * 24 * 22
+    wanted = table_of(oracle.study({}, ["half", "85"], "chair 1 1..35 by 1 %"))
+    assert len(rows) == len(wanted) == 2 * 24 * 36
     steps = [(it["sweep_percent"], Fraction(of["sweep_percent"])) for it, of in zip(rows, wanted) if of["sweep"]]
-    assert len(steps) == 2 * 24 * 21 and all(Fraction(cell) == value for cell, value in steps)
+    assert len(steps) == 2 * 24 * 35 and all(Fraction(cell) == value for cell, value in steps)
     assert [it["power_share_numerator"] for it in rows] == [int(it["power_share_numerator"]) for it in wanted]
 
 
@@ -375,17 +375,12 @@ def check_sentence(text: str, page: Page, oracle: Oracle, majority: str) -> None
 def test_sentences_by_keyboard(study: Page, oracle: Oracle) -> None:
     # Catches: a sentence without its source, a button that no key reaches, a copy that nothing says.
     study.run("document.querySelector('#display summary').focus();")
-    for majority in MAJORITIES:
-        study.press(Keys.TAB)
-        assert study.run("return document.activeElement.id;") == f"copy-{majority}"
-    study.run("document.getElementById('copy-85').focus();")
+    study.press(Keys.TAB)
+    assert study.run("return document.activeElement.id;") == "copy-all"
     study.press(Keys.ENTER)
     live = "return document.getElementById('live').textContent;"
-    study.until(lambda: study.run(live) == "The sentence at 85 per cent is on the clipboard.", "a word of the copy")
-    assert "done" in str(study.at("#copy-85").get_attribute("class"))
-    check_sentence(pasted(study), study, oracle, "85")
-    study.at("#copy-all").send_keys(Keys.ENTER)
     study.until(lambda: "sentences are" in study.run(live), "a word of the copy")
+    assert "done" in str(study.at("#copy-all").get_attribute("class"))
     for text, majority in zip(pasted(study).strip().split("\n\n"), MAJORITIES, strict=True):
         check_sentence(text, study, oracle, majority)
 
@@ -457,6 +452,4 @@ def test_a_finger(page: Page, finger: Finger, oracle: Oracle) -> None:
     page.until(lambda: page.text("#export-words"), "a word of the copy")
     assert page.text("#export-words") == "The sentence at a simple majority is on the clipboard."
     tap(finger, "#export-dialog .close")
-    tap(finger, "#copy-85")
-    page.until(lambda: page.all("#copy-85.done"), "a word of the copy")
-    assert pasted(page).startswith(page.texts("#sentences p")[1] + "\nSource: counted: ")
+    assert not page.at("#copy-all").is_displayed()

@@ -5,7 +5,8 @@ import { test } from "node:test";
 import { indices } from "../../bindings/javascript/src/indices";
 import { loadSync } from "../../bindings/javascript/src/load";
 import {
-  blockingRule, checkOf, coalitionsBySize, smallestWith, subsetsWithout, verdictOf, vetoChairs, winningBySize,
+  blockingRule, checkOf, coalitionsBySize, fewestToBlock, fewestToWin, ruleWithout, smallestWith, subsetsWithout,
+  verdictOf, vetoChairs, winningBySize,
   type Rule,
 } from "../src/engine/coalitions";
 import { Subsets } from "../src/engine/subsets";
@@ -217,4 +218,34 @@ test("coalitions that can block", () => {
     }
   }
   assert.ok(found > 3000);
+});
+
+test("the smallest coalitions of any chairs, without one of them, and the fewest chairs", () => {
+  // Catches: a chair that is left out and is in them, or whose votes no longer count for the quota.
+  let found = 0;
+  for (const { board, majority } of EACH.filter((it) => it.board.votes.length)) {
+    const rule = ruleOf(board, majority);
+    const last = 2 ** board.votes.length - 1;
+    const wins = all(board).filter((it) => isWinning(board, majority, it));
+    const blocks = all(board).filter((_, bits) => !isWinning(board, majority, coalition(board, bits ^ last)));
+    const named = (some: readonly Plain[]) => some.map((it) => it.places.map((at) => board.numbers[at] ?? 0));
+    assert.equal(fewestToWin(rule)?.length, wins.length ? Math.min(...named(wins).map((it) => it.length)) : undefined);
+    for (const without of [null, ...board.numbers]) {
+      const subsets = subsetsWithout(rule.chairs.filter((it) => it.chair !== without), null);
+      const parts = [[wins, ruleWithout(rule, without)], [blocks, blockingRule(rule, null, without)]] as const;
+      for (const [some, its] of parts) {
+        const own = named(some).filter((it) => without === null || !it.includes(without));
+        const size = Math.min(...own.map((it) => it.length));
+        const wanted = own.filter((it) => it.length === size).map(String).sort();
+        const smallest = smallestWith(its, null, subsets, 5000);
+        assert.deepEqual(smallest?.first.map(String).sort() ?? [], wanted, JSON.stringify([board, majority, without]));
+        if (some === blocks) {
+          const fewest = fewestToBlock(rule, without === null ? [] : [without]);
+          assert.equal(fewest?.length ?? Infinity, size);
+        }
+        found += 1;
+      }
+    }
+  }
+  assert.ok(found > 6000, String(found));
 });

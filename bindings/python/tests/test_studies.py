@@ -56,8 +56,8 @@ def test_script(small: Study) -> None:
 def test_example() -> None:
     found = study(EXAMPLE, at=["85"], scenarios=["XAB +30%: votes,XAB,+30%"], sweeps="XAA 10..20 by 0.5 %")
     assert found.results["XAB +30%"].answers() == [
-        "At 85 per cent, in share of power: chair 2 Hills gains most, +0.323 percentage points; "
-        "chair 23 Steppes loses most, -0.226 percentage points."
+        "At 85 per cent, chair 1 Harbours keeps its veto, with 52,430 votes more than it needs. In share of power: "
+        "chair 2 Hills gains most, +0.317 percentage points; chair 3 Plains loses most, -0.192 percentage points."
     ]
     assert found.sweeps[0].answers() == [
         "At 85 per cent, from 847,524 votes of XAA on, 14.886 per cent of the total voting power: chair 1 Harbours has "

@@ -9,6 +9,7 @@ import {
 import type { Line } from "../engine/columns";
 import type { ChairRow } from "../engine/compare";
 import { difference, type Ratio } from "../study/fractions";
+import { meanings, tagsOf, type Tag } from "../engine/kinds";
 import { measureOf, type ChairReading } from "../engine/reading";
 import { MEASURE, type Majority, type Measure } from "../study/words";
 
@@ -81,7 +82,14 @@ function scalesOf(all: readonly Drawn[], { places }: Panels, isGain: boolean): L
   return places.map(([left, right]) => scaleLinear().domain([from, to]).range([left, right]).nice(5));
 }
 
-function legend({ majorities, isChanged, compared, measure }: ChairModel, { isGain }: Kind): LegendItem[] {
+/** On paper there is room for what a change did. */
+const TURNS: Readonly<Record<string, string>> = { "+ veto": "gains veto", "− veto": "loses veto" };
+
+function tagsOfLine({ cells }: Line): Tag[] {
+  return tagsOf(cells[cells.length - 1]?.at ?? new Map()).map((it) => ({ ...it, words: TURNS[it.words] ?? it.words }));
+}
+
+function legend({ lines, majorities, isChanged, compared, measure }: ChairModel, { isGain }: Kind): LegendItem[] {
   const votes: LegendItem = {
     words: isGain ? "votes" : "share of votes", draw: (at, { bar }) => void legendBar(at).attr("fill", bar),
   };
@@ -89,7 +97,15 @@ function legend({ majorities, isChanged, compared, measure }: ChairModel, { isGa
     words: `hollow: ${compared}`, draw: (at, palette) => void dot(at, majorities[0] ?? "half", true, palette),
   };
   const marks = majorityItems(majorities);
-  return [...(measure === "share" ? [votes] : []), ...marks, ...(isChanged && !isGain ? [hollow] : [])];
+  const was: LegendItem = {
+    words: `line: votes, ${compared}`,
+    draw: (at, { faint }) => void at.append("line").attr("y1", -5).attr("y2", 5).attr("stroke", faint),
+  };
+  const before = isChanged && !isGain ? [hollow, ...(measure === "share" ? [was] : [])] : [];
+  const kinds = meanings(lines.flatMap(tagsOfLine)).map(({ tag, words }): LegendItem => {
+    return { words: `${tag}: ${words}`, draw: () => {} };
+  });
+  return [...(measure === "share" ? [votes] : []), ...marks, ...before, ...kinds];
 }
 
 /** What is drawn, in words. */
@@ -102,7 +118,8 @@ function wordsOf({ panels, compared, measure }: ChairModel, { isGain }: Kind): s
 
 /** Draws a chart into a place. Each row has a group with the chair's number in `data-chair`. */
 function draw(target: Element, model: ChairModel, asked: Look, kind: Kind): void {
-  const { lines, measure } = model;
+  const { measure } = model;
+  const lines = model.lines.map((it) => ({ ...it, tags: tagsOfLine(it) }));
   const { left, head } = labelRoom(lines, asked);
   const panels = panelsOf(model.panels.length, left, asked);
   const look = { ...asked, width: panels.width };

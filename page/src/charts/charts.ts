@@ -2,6 +2,7 @@
 import { select, type Selection } from "d3-selection";
 import { symbol, symbolCircle, symbolDiamond, symbolSquare, symbolTriangle, type SymbolType } from "d3-shape";
 import { drawn, type Ratio } from "../study/fractions";
+import type { Tag } from "../engine/kinds";
 import { isolated } from "../study/names";
 import { fitted, wrapped, type Typeface } from "../exports/typeface";
 import { MAJORITIES, MAJORITY, type Majority, type Measure } from "../study/words";
@@ -66,7 +67,7 @@ const [TITLE, CAPTION, SOURCE] = [15, 11, 10] as const;
 const LINE = 14;
 const MOST_TITLES = 4;
 /** The part of a figure's width on paper that its names may take. */
-const MOST_LABEL = 0.4;
+const [MOST_LABEL, MOST_TAGGED] = [0.4, 0.6] as const;
 
 /** The paths of the majorities' dots, each made once. */
 const PATHS = new Map(MAJORITIES.map((it) => [it, symbol().type(SHAPES[it]).size(44)()]));
@@ -156,12 +157,12 @@ export function footHeight(look: Look): number {
   return 12 + 14 * sourceLines(look).length;
 }
 
-/** The least and the greatest height of a row, in figures and on the page's own paper. */
-const [LEAST_ROW, MOST_ROW] = [11, 18] as const;
+/** The least height of a row, and the greatest in figures and on the page's own paper. */
+const [LEAST_ROW, MOST_ROW, PAPER_ROW] = [11, 18, 26] as const;
 
 /** The height of each of some rows: what the rest of a figure leaves, as long as letters fit. */
-export function rowHeight({ most }: Look, many: number, rest: number): number {
-  return Math.max(LEAST_ROW, Math.min(MOST_ROW, (most - rest) / many));
+export function rowHeight({ most, isTight }: Look, many: number, rest: number): number {
+  return Math.max(LEAST_ROW, Math.min(isTight ? MOST_ROW : PAPER_ROW, (most - rest) / many));
 }
 
 /** A number of an axis: large ones are short. */
@@ -230,9 +231,11 @@ export function headed(frame: Frame, names: readonly string[], panels: Panels, l
 }
 
 /** Where rows begin: names are to the left of them, or above them if there is little room. */
-export function labelRoom(rows: readonly Named[], { width, typeface, isTight }: Look): { left: number; head: number } {
-  const longest = Math.max(0, ...rows.map((row) => typeface.width(nameOf(row), TEXT))) + 18;
-  if (isTight) return { left: Math.max(30, Math.min(longest, width * MOST_LABEL)), head: 0 };
+export function labelRoom(rows: readonly Named[], look: Look): { left: number; head: number } {
+  const { width, typeface, isTight } = look;
+  const longest = Math.max(0, ...rows.map((row) => typeface.width(nameOf(row), TEXT) + tagRoom(row, look))) + 18;
+  const most = rows.some((it) => it.tags?.length) ? MOST_TAGGED : MOST_LABEL;
+  if (isTight) return { left: Math.max(30, Math.min(longest, width * most)), head: 0 };
   return width < 480 || longest > width / 2 ? { left: 10, head: 17 } : {
     left: Math.max(60, Math.min(longest, width / 3)),
     head: 0,
@@ -242,6 +245,7 @@ export function labelRoom(rows: readonly Named[], { width, typeface, isTight }: 
 interface Named {
   readonly chair: number;
   readonly name: string;
+  readonly tags?: readonly Tag[];
 }
 
 function nameOf({ chair, name }: Named): string {
@@ -263,13 +267,31 @@ export function rowGroup(
   return group;
 }
 
-/** Writes a row's name. */
+/** The width of a row's tags, with the room before each. */
+function tagRoom({ tags = [] }: Named, { typeface }: Look): number {
+  const rooms = tags.map(({ words, majorities }) => 12 + typeface.width(words, CAPTION) + 11 * majorities.length);
+  return rooms.reduce((sum, it) => sum + it, 0);
+}
+
+/** Writes a row's name, and what is said of its power in kind. */
 export function labelled(group: Selection, row: Named, look: Look, head: number, left: number, height: number): void {
-  const label = group.append("text").attr("fill", look.palette.ink);
-  const room = (head ? look.width - 20 : left - 10) - look.typeface.width(`${row.chair} `, TEXT);
-  label.text(`${row.chair} ${isolated(fitted(row.name, room, look.typeface, TEXT))}`);
-  if (head) label.attr("x", 8).attr("y", 13);
-  else label.attr("x", left - 10).attr("y", height / 2 + 4).attr("text-anchor", "end");
+  const { palette, typeface } = look;
+  const tags = tagRoom(row, look);
+  const room = (head ? look.width - 20 : left - 10) - tags - typeface.width(`${row.chair} `, TEXT);
+  const name = `${row.chair} ${isolated(fitted(row.name, room, typeface, TEXT))}`;
+  const y = head ? 13 : height / 2 + 4;
+  const label = group.append("text").attr("fill", palette.ink).attr("y", y).text(name);
+  if (head) label.attr("x", 8);
+  else label.attr("x", left - 10 - tags).attr("text-anchor", "end");
+  let x = head ? 8 + typeface.width(name, TEXT) : left - 10 - tags;
+  for (const { words, majorities } of row.tags ?? []) {
+    caption(group, words, x + 8, y, palette);
+    x += 8 + typeface.width(words, CAPTION);
+    for (const majority of majorities) {
+      dot(group, majority, false, palette).attr("transform", `translate(${x + 6},${y - 4}) scale(0.7)`);
+      x += 11;
+    }
+  }
 }
 
 /** A small text next to an axis. */

@@ -14,9 +14,19 @@ export interface CurvePoint {
   readonly readings: Readings;
 }
 
+/** A threshold: its place, what is written beside it, and all of it in words. */
+interface CurveMark {
+  readonly x: number;
+  readonly majority: Majority;
+  readonly label: string;
+  readonly words: string;
+}
+
 export interface CurveModel {
   readonly points: readonly CurvePoint[];
-  readonly marks: readonly { readonly x: number; readonly majority: Majority; readonly words: string }[];
+  readonly marks: readonly CurveMark[];
+  /** Where the chair is now, on the axis. */
+  readonly now: number;
   readonly chair: number;
   readonly majorities: readonly Majority[];
   readonly measure: Measure;
@@ -140,14 +150,32 @@ function drawVotes({ root, model, look, right, top, bottom, x }: Plot): void {
   line.attr("stroke", palette.bar).attr("stroke-width", 4).attr("stroke-opacity", 0.7);
 }
 
-/** Draws a mark at each threshold. */
-function drawMarks({ root, model, look, top, bottom, x }: Plot): void {
-  for (const { x: at, majority, words } of model.marks) {
-    const line = root.append("line").attr("x1", x(at)).attr("x2", x(at)).attr("y1", top).attr("y2", bottom);
-    line.attr("stroke", look.palette.of[majority]).attr("stroke-dasharray", DASHES[majority]);
+/** The lines below each other that labels of marks are written on. */
+const LABEL_LINES = 5;
+
+/** Writes a label beside a line of the plot, on the side that has more room. */
+function label({ root, look, left, right, top }: Plot, words: string, x: number, line: number): void {
+  const isLeft = x > (left + right) / 2;
+  caption(root, words, x + (isLeft ? -7 : 7), top + 12 + 14 * line, look.palette, isLeft ? "end" : "start");
+}
+
+/** Draws a mark at each threshold, with its words, and a line where the chair is now. */
+function drawMarks(plot: Plot): void {
+  const { root, model, look, top, bottom, x } = plot;
+  const across = (at: number) => {
+    return root.append("line").attr("x1", x(at)).attr("x2", x(at)).attr("y1", top).attr("y2", bottom);
+  };
+  const [low, high] = x.domain();
+  if (model.now >= low && model.now <= high) {
+    across(model.now).attr("stroke", look.palette.ink).attr("stroke-opacity", 0.5);
+    label(plot, "now", x(model.now), LABEL_LINES);
+  }
+  [...model.marks].sort((one, other) => one.x - other.x).forEach(({ x: at, majority, label: short, words }, place) => {
+    across(at).attr("stroke", look.palette.of[majority]).attr("stroke-dasharray", DASHES[majority]);
     const head = root.append("g").attr("transform", `translate(${x(at)},${top})`);
     dot(head, majority, true, look.palette).append("title").text(words);
-  }
+    label(plot, short, x(at), place % LABEL_LINES);
+  });
 }
 
 function pathOver(points: readonly CurvePoint[], values: readonly (number | null)[], x: Linear, y: Linear): string {

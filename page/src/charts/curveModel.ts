@@ -2,6 +2,7 @@
 import type { App } from "../views/app";
 import type { Labelled } from "../exports/csv";
 import type { CurveModel } from "./curveChart";
+import type { Curve } from "../engine/count";
 import { counted, decimalRatio, drawn, grouped, percent, rounded, type Ratio } from "../study/fractions";
 import { isolated } from "../study/names";
 import type { Statement, Threshold } from "../engine/orders";
@@ -10,8 +11,9 @@ import type { SweepAsked } from "../study/study";
 import { sweepText } from "../engine/sweep";
 import { MAJORITY, MEASURE } from "../study/words";
 
-export const FIRST_SWEEP: SweepAsked = {
-  who: { kind: "chair", chair: 1 }, on: "base", unit: "percent", from: "10", to: "20", by: "0.5",
+/** The label of a threshold on the picture. */
+const SHORT: Readonly<Record<Statement, string>> = {
+  prevents: "veto", carries: "alone", counts: "power", leads: "more swings",
 };
 
 export const STATEMENT_WORDS: Readonly<Record<Statement, string>> = {
@@ -50,6 +52,14 @@ function sweepWords({ who, on, unit, from, to, by }: SweepAsked): string {
   return `with ${from} to ${to} ${what} for ${whose}, in steps of ${by}${where}`;
 }
 
+/** Where the votes that are swept are now, on the axis. */
+function nowOf({ asked, standing, rest }: Curve): number {
+  const own = asked.who.kind === "chair"
+    ? standing.in(asked.who.chair).reduce((sum, it) => sum + (it.suspended ? 0 : it.votes), 0)
+    : standing.place(asked.who.code)?.votes ?? 0;
+  return asked.unit === "votes" ? own : (100 * own) / (own + rest);
+}
+
 /** The chart's model, also for exports. Null if no sweep is counted. */
 export function curveModel(app: App): CurveModel | null {
   const { curve, view } = app;
@@ -63,8 +73,12 @@ export function curveModel(app: App): CurveModel | null {
   return {
     points: points.map((it) => ({ x: Number(it.value), readings: readings(it.readings) })),
     marks: marks.map((it) => ({
-      x: isPercent ? shareOf(it) : it.votes, majority: it.majority, words: thresholdWords(it, view.digits),
+      x: isPercent ? shareOf(it) : it.votes,
+      majority: it.majority,
+      label: `${SHORT[it.what]} ${it.isFrom ? "from" : "below"} ${grouped(it.votes)}`,
+      words: thresholdWords(it, view.digits),
     })),
+    now: nowOf(curve),
     chair,
     majorities,
     measure: view.measure,
@@ -81,7 +95,7 @@ function padded(value: string, { from, by }: SweepAsked): string {
 }
 
 /** The points of the study's sweep as registers of a table; none if it has no sweep. */
-export function sweepRegisters({ curve }: App): Labelled[] {
+export function sweepRegisters({ keptCurve: curve }: App): Labelled[] {
   if (!curve) return [];
   const { asked, points, standing } = curve;
   const name = asked.who.kind === "member" ? asked.who.code : `chair ${asked.who.chair}`;

@@ -6,13 +6,16 @@ import type { ChairModel } from "./chairChart";
 import { SCREEN } from "../exports/typeface";
 
 const LEAST_WIDTH = 280;
+/** The width between the margins of a sheet of A4 or Letter paper, and the height that it has for a chart. */
+const [PAPER_WIDTH, PAPER_HEIGHT] = [700, 780] as const;
 
-/** The look of charts on the screen; paper is light. */
+/** The look of charts on the screen, and on the page's own paper. */
 export function screenLook(app: App, place: HTMLElement): Look {
-  const isDark = matchMedia("(prefers-color-scheme: dark)").matches && !app.open.isPrinting;
-  const palette = isDark ? DARK : LIGHT;
+  const common = { title: "", source: [], typeface: SCREEN, isTight: false } as const;
+  if (app.open.isPrinting) return { ...common, width: PAPER_WIDTH, palette: LIGHT, most: PAPER_HEIGHT };
+  const isDark = matchMedia("(prefers-color-scheme: dark)").matches;
   const width = Math.max(LEAST_WIDTH, place.clientWidth);
-  return { width, palette, title: "", source: [], typeface: SCREEN, isTight: false, most: Infinity };
+  return { ...common, width, palette: isDark ? DARK : LIGHT, most: Infinity };
 }
 
 /** The data of the charts of chairs. */

@@ -86,18 +86,45 @@ export function vetoChairs(rule: Rule): number[] | null {
 }
 
 /**
- * The rule by which the smallest coalitions with a chair that block are found as if they won: all other chairs together
- * lose, since they have less than the quota, or fewer chairs than win.
+ * The rule by which the smallest coalitions with a chair, or of any, that block are found as if they won: all other
+ * chairs together lose, since they have less than the quota, or fewer chairs than win. One chair may be left out of
+ * them.
  */
-export function blockingRule(rule: Rule, chair: number): Rule {
-  const { quota, leastSize, chairs } = rule;
-  const byVotes = { chairs, quota: votesOf(chairs) - quota + 1, leastSize: 0 };
+export function blockingRule(rule: Rule, chair: number | null, without: number | null = null): Rule {
+  const { quota, leastSize } = rule;
+  const chairs = rule.chairs.filter((it) => it.chair !== without);
+  const byVotes = { chairs, quota: votesOf(rule.chairs) - quota + 1, leastSize: 0 };
   if (!leastSize) return byVotes;
-  const bySize = { chairs, quota: 0, leastSize: chairs.length - leastSize + 1 };
+  const bySize = { chairs, quota: 0, leastSize: rule.chairs.length - leastSize + 1 };
+  const own = chairs.filter((it) => it.chair === chair);
   const others = chairs.filter((it) => it.chair !== chair);
-  const own = votesOf(chairs) - votesOf(others);
-  const size = mostVotes(others).findIndex((it) => it >= byVotes.quota - own) + 1;
-  return size > 0 && size < bySize.leastSize ? byVotes : bySize;
+  const more = mostVotes(others).findIndex((it) => it >= byVotes.quota - votesOf(own));
+  return more >= 0 && more + own.length < bySize.leastSize ? byVotes : bySize;
+}
+
+/** The rule for coalitions without a chair, which win as before. */
+export function ruleWithout({ quota, leastSize, chairs }: Rule, without: number | null): Rule {
+  return { quota, leastSize, chairs: chairs.filter((it) => it.chair !== without) };
+}
+
+/** The chairs with the most votes, as many as have some votes and are some number; null if all together aren't. */
+function largest(voters: readonly Voter[], votes: number, least: number): number[] | null {
+  const many = mostVotes(voters).findIndex((it, at) => it >= votes && at >= least);
+  const falling = [...voters].sort((left, right) => right.weight - left.weight);
+  return many < 0 ? null : numbers(falling.slice(0, many));
+}
+
+/** The fewest chairs that win together, those with the most votes first; null if no coalition wins. */
+export function fewestToWin({ chairs, quota, leastSize }: Rule): number[] | null {
+  return largest(chairs, quota, leastSize);
+}
+
+/** The fewest chairs that block together, without some that may not be among them; null if these can't block. */
+export function fewestToBlock({ chairs, quota, leastSize }: Rule, excluded: readonly number[]): number[] | null {
+  const voters = chairs.filter((it) => !excluded.includes(it.chair));
+  const byVotes = largest(voters, votesOf(chairs) - quota + 1, 0);
+  const bySize = leastSize ? largest(voters, 0, chairs.length - leastSize + 1) : null;
+  return bySize && (!byVotes || bySize.length < byVotes.length) ? bySize : byVotes;
 }
 
 /** How many coalitions of each size win, from 0 chairs to all. */
@@ -142,24 +169,25 @@ function firstOf<Value>(values: Iterator<Value>, most: number): Value[] {
 }
 
 /** The subsets of the chairs other than one, by their votes. */
-export function subsetsWithout(voters: readonly Voter[], chair: number): Subsets {
+export function subsetsWithout(voters: readonly Voter[], chair: number | null): Subsets {
   return new Subsets(voters.filter((it) => it.chair !== chair).map((it) => it.weight));
 }
 
 /**
- * The winning coalitions with a chair that have the least number of chairs, the first of them up to some number, and
- * null if there are none. `subsets` are those of the other chairs.
+ * The winning coalitions with a chair, or with null of any chairs, that have the least number of chairs, the first of
+ * them up to some number, and null if there are none. `subsets` are those of the other chairs.
  */
-export function smallestWith(rule: Rule, chair: number, subsets: Subsets, most: number): Smallest | null {
-  const own = rule.chairs.find((it) => it.chair === chair);
-  if (!own) return null;
-  const others = without(rule.chairs, own);
-  const needed = rule.quota - own.weight;
-  const size = mostVotes(others).findIndex((it, at) => it >= needed && at + 1 >= rule.leastSize);
+export function smallestWith(rule: Rule, chair: number | null, subsets: Subsets, most: number): Smallest | null {
+  const own = rule.chairs.filter((it) => it.chair === chair);
+  if (chair !== null && !own.length) return null;
+  const others = rule.chairs.filter((it) => it.chair !== chair);
+  const needed = rule.quota - votesOf(own);
+  const size = mostVotes(others).findIndex((it, at) => it >= needed && at + own.length >= rule.leastSize);
   if (size < 0) return null;
   const many = subsets.atLeast(size, needed);
   const first = firstOf(inOrder(others, size, needed), most);
-  return { size: size + 1, many, first: first.map((it) => [...it, chair].sort((left, right) => left - right)) };
+  const whole = first.map((it) => [...it, ...numbers(own)].sort((left, right) => left - right));
+  return { size: size + own.length, many, first: whole };
 }
 
 /** Whether the winning coalitions of all sizes are together as many as the register counts. */

@@ -1,10 +1,11 @@
 /** Base against changed: rows of chairs, their order, and the sentence on gains. All of it is made here. */
-import { FINDINGS, MEASURE_NAMES } from "../cited";
+import { MEASURE_NAMES } from "../cited";
 import type { Counted } from "./count";
 import { compared, difference, fractionText, grouped, percent, rounded, signed, type Ratio } from "../study/fractions";
-import { isolated, listed } from "../study/names";
 import { chairIn, measureOf, voteShare, type ChairReading, type Readings } from "./reading";
+import { chairsWords, namedChair, said, type Said } from "./said";
 import { chairKey, type Standing } from "./standing";
+import { leadOf, restOf } from "./vetoes";
 import type { View } from "../study/study";
 import { MAJORITY, type Majority, type Measure } from "../study/words";
 
@@ -131,11 +132,6 @@ export function gainText(gain: Ratio | null, measure: Measure, digits: number): 
   return signed(measure === "share" ? percent(gain, digits) : rounded(gain, digits + 2));
 }
 
-/** A sentence of the table of findings, with what it speaks of. */
-function said(name: keyof typeof FINDINGS, words: Readonly<Record<string, string>>): string {
-  return FINDINGS[name].replace(/\{(\w+)\}/g, (_, key: string) => words[key] ?? "");
-}
-
 /** The gain in a measure in a sentence; one that rounds to 0 is less than the last place. */
 export function gainWords(gain: Ratio, measure: Measure, digits: number): string {
   const text = gainText(gain, measure, digits);
@@ -162,26 +158,10 @@ function extremes(
   return found;
 }
 
-/** Words, and the fractions of their numbers. */
-export interface Said {
-  readonly words: string;
-  readonly source: string;
-}
-
-/** A chair by number and name; one that has none is named by its number. */
-function namedChair({ chair, name }: Pick<ChairRow, "chair" | "name">): string {
-  return name === `chair ${chair}` ? String(chair) : `${chair} ${isolated(name)}`;
-}
-
 function gainSource(row: ChairRow, majority: Majority, measure: Measure): string {
   const found = row.at.get(majority);
   const values = [found?.after, found?.before].map((it) => fractionText(ratioOf(it, measure)));
   return `${namedChair(row)}, made here: ${values.join(" less ")}`;
-}
-
-/** Chairs by number and name. */
-export function chairsWords(rows: readonly Pick<ChairRow, "chair" | "name">[]): string {
-  return listed(rows.map(namedChair));
 }
 
 const DIRECTIONS = { gain: 1, loss: -1 } as const;
@@ -218,7 +198,7 @@ function openedWords(rows: readonly ChairRow[], view: View, majority: Majority):
 }
 
 /** The sentence on the greatest gain and the greatest loss at a majority. */
-function gainSentence(rows: readonly ChairRow[], view: View, majority: Majority): Said {
+function gainSentence(rows: readonly ChairRow[], view: View, majority: Majority, lead: Said | null): Said {
   const parts = (["gain", "loss"] as const).map((direction) => {
     const found = extreme(rows, view, majority, direction);
     const { chairs = "", change = "", source = "", isOne } = found ?? {};
@@ -228,7 +208,9 @@ function gainSentence(rows: readonly ChairRow[], view: View, majority: Majority)
   const [gain = "", loss = ""] = parts.map((it) => it.words);
   const opened = openedWords(rows, view, majority);
   const words = { at: MAJORITY[majority].at, measure: MEASURE_NAMES[view.measure], gain, loss, opened };
-  return { words: said("gains", words), source: parts.flatMap((it) => it.source || []).join("; ") };
+  const source = [lead, ...parts].flatMap((it) => it?.source || []).join("; ");
+  return lead ? { ...lead, words: lead.words + said("gains_then", words), source }
+    : { words: said("gains", words), source };
 }
 
 /** The greatest value of a measure, and the chairs that have it. */
@@ -280,9 +262,13 @@ export function emptySentence(counted: Counted, majority: Majority): string | nu
 
 /** The sentences of all majorities that are shown. */
 export function sentences(rows: readonly ChairRow[], counted: Counted, view: View): Said[] {
+  const numbered = [...rows].sort((left, right) => left.chair - right.chair);
   return view.majorities.map((majority) => {
     const empty = emptySentence(counted, majority);
     if (empty) return { words: empty, source: "counted: WINNING is 0" };
-    return (counted.isChanged ? gainSentence : mostSentence)(rows, view, majority);
+    const lead = leadOf(numbered, counted, majority);
+    if (counted.isChanged) return gainSentence(rows, view, majority, lead);
+    const first = lead ?? mostSentence(rows, view, majority);
+    return { ...first, words: first.words + restOf(numbered, majority) };
   });
 }

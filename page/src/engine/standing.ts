@@ -85,14 +85,18 @@ export class Standing {
     return opening === undefined ? chairNames[chair] : this.named[opening] ?? chairNames[chairKey(chair, true)];
   }
 
-  /** A chair's name: the one that was given, else its member with the most votes and how many others there are. */
+  /** A chair's name: the one that was given, else its member with the most votes and how many others there are; or as
+   * the base says what chairs are named by. */
   name(chair: number): string {
     const given = this.given(chair);
-    if (given) return given;
+    const { naming = "given" } = this.base;
+    if (given && naming === "given") return given;
     const seated = this.in(chair);
     const [first] = [...seated].sort((left, right) => right.votes - left.votes);
-    if (!first) return `chair ${chair}`;
-    return (first.name || first.code) + (seated.length > 1 ? ` and ${seated.length - 1} more` : "");
+    if (!first) return given || `chair ${chair}`;
+    const largest = first.name || first.code;
+    if (given && naming === "both") return given === largest ? given : `${largest} (${given})`;
+    return largest + (seated.length > 1 ? ` and ${seated.length - 1} more` : "");
   }
 }
 

@@ -9,13 +9,15 @@ export interface Ticks {
   readonly of: string;
   readonly keys: ReadonlySet<string>;
   /** The chair and the majority of the list of smallest winning coalitions; null until they are chosen. */
-  readonly chair: number | null;
+  readonly chair: number | "any" | null;
+  /** The chair that isn't in them, or null. */
+  readonly without: number | null;
   readonly at: Majority | null;
   /** Whether the list is of those that block. */
   readonly isBlocking: boolean;
 }
 
-export const NO_TICKS: Ticks = { of: "", keys: new Set(), chair: null, at: null, isBlocking: false };
+export const NO_TICKS: Ticks = { of: "", keys: new Set(), chair: null, without: null, at: null, isBlocking: false };
 
 /** The open chairs by number, with their keys: a chair that was closed and opened again is another one. */
 function keysOf({ counted: { standing } }: Shown): Map<number, string> {

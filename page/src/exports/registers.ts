@@ -30,7 +30,7 @@ export function registers(app: App, shown: Shown): { all: Labelled[]; sources: S
   const steps = app.view.columns === "steps" ? stepColumns(shown, app.results) : { list: [], waiting: 0 };
   if (scenarios.waiting + steps.waiting > 0) throw new Error("not all columns are counted yet");
   const isChained = app.view.columns !== "changed" && app.view.against === "before";
-  const { curve } = app;
+  const { keptCurve: curve } = app;
   return {
     all: [
       base,

@@ -1,6 +1,6 @@
 /** Names that are edited: of a member and of a chair. */
 import type { Typed } from "./amounts";
-import type { Change, Study } from "./study";
+import type { Change, Naming, Study } from "./study";
 import { chairKey } from "../engine/standing";
 
 /** The most characters of a name. */
@@ -23,6 +23,12 @@ function unnamed(change: Change, code: string): Change {
 function withName(names: Readonly<Record<string, string>>, key: string, name: string): Record<string, string> {
   const { [key]: _, ...others } = names;
   return name ? { ...others, [key]: name } : others;
+}
+
+/** The study with chairs that are named by something else. */
+export function withNaming(study: Study, naming: Naming): Study {
+  const { naming: _, ...base } = study.base;
+  return { ...study, base: naming === "given" ? base : { ...base, naming } };
 }
 
 /** The study with another name of a member, of the table or admitted. */

@@ -91,6 +91,10 @@ export interface Scenario {
   readonly changes: readonly Change[];
 }
 
+/** A chair is named by the name that it was given, such as its Director's, by its largest member, or by both. */
+export const NAMINGS = ["given", "member", "both"] as const;
+export type Naming = typeof NAMINGS[number];
+
 /** The register that a table or a script gives, and how it was read. */
 export interface Base {
   /** The beginning of a script, without the study's changes and readings; its last line has a line end. */
@@ -98,6 +102,8 @@ export interface Base {
   /** The names of members by their codes, and of chairs by their numbers. */
   readonly names: Readonly<Record<string, string>>;
   readonly chairNames: Readonly<Record<string, string>>;
+  /** What chairs are named by; by the names that they were given if it is missing. */
+  readonly naming?: Naming;
   /** The members' rows in the table, from 1. */
   readonly rows: Readonly<Record<string, number>>;
   /** Choices made when the base was read, each a sentence. */

@@ -2,7 +2,7 @@
 import { Command } from "../../../bindings/javascript/src/commands";
 import { scriptWith } from "./script";
 import {
-  AGAINST, COLUMNS, FIRST_VIEW, ORDERS, TABS, THINGS, type Base, type Change, type Operation, type Percentage,
+  AGAINST, COLUMNS, FIRST_VIEW, NAMINGS, ORDERS, TABS, THINGS, type Base, type Change, type Operation, type Percentage,
   type Scenario, type Study, type SweepAsked, type View, type What,
 } from "./study";
 import { OPERATIONS } from "../cited";
@@ -143,6 +143,7 @@ function base(value: unknown): Base {
     script: text(found["script"], "a script"),
     names: record(found["names"], "names", text),
     chairNames: record(found["chairNames"], "names of chairs", text),
+    ...found["naming"] === undefined ? {} : { naming: oneOf(NAMINGS, found["naming"], "what chairs are named by") },
     rows: record(found["rows"], "rows", whole),
     choices: list(found["choices"], "choices").map((it) => text(it, "a choice")),
     hash: text(found["hash"], "a hash"),

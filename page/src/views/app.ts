@@ -4,6 +4,7 @@ import { FIRST_FIGURE, type FigureChosen } from "../exports/figureSize";
 import { History } from "../study/history";
 import { Cancelled } from "../engine/pausing";
 import { Results, type Sweep } from "../engine/results";
+import { firstSweep } from "../engine/firstSweep";
 import { stepsOf } from "../engine/steps";
 import type { Study, SweepAsked, View } from "../study/study";
 import { NO_TICKS, type Ticks } from "../engine/ticks";
@@ -159,18 +160,27 @@ export class App {
     paint();
   }
 
-  /** The sweep that the study asks for, if it was counted on the board shown. */
+  /** The sweep that is shown: the one that the study asks for, else one of the chair in focus; null if none is. */
+  asked({ study, counted }: Shown): SweepAsked | null {
+    return study.sweep ?? (this.view.tab === "curve" ? firstSweep(counted, this.open.cards) : null);
+  }
+
+  /** That sweep, if it was counted on the board shown. */
   get sweep(): Sweep | undefined {
     const { shown } = this;
-    return shown?.study.sweep
-      ? this.results.sweep(shown.counted, shown.study.changes, shown.study.sweep)
-      : undefined;
+    const asked = shown && this.asked(shown);
+    return shown && asked ? this.results.sweep(shown.counted, shown.study.changes, asked) : undefined;
   }
 
   /** The curve of that sweep, or null. */
   get curve(): Curve | null {
     const { sweep } = this;
     return sweep && !("problem" in sweep) ? sweep : null;
+  }
+
+  /** The curve of the sweep that the study has, or null. */
+  get keptCurve(): Curve | null {
+    return this.shown?.study.sweep ? this.curve : null;
   }
 
   /** Counts all that the study has, the sweep too even if it isn't shown, and returns the study with its count. */
@@ -251,7 +261,9 @@ export class App {
     return missing.length > 0;
   }
 
-  async #countSweep(run: number, { study: { changes, sweep: asked }, counted }: Shown): Promise<void> {
+  async #countSweep(run: number, shown: Shown): Promise<void> {
+    const { study: { changes }, counted } = shown;
+    const asked = this.asked(shown);
     if (!asked || this.results.sweep(counted, changes, asked) || run !== this.#run) return;
     const keep = (value: Sweep) => this.results.keepSweep(counted, changes, asked, value);
     try {

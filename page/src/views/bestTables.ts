@@ -1,12 +1,13 @@
 /** The tables of single moves: those to one chair, and those that change any chair most. */
 import type { App } from "./app";
-import { chairsWords, gainText, gainUnit, gainWords, valueText } from "../engine/compare";
+import { gainText, gainUnit, gainWords, valueText } from "../engine/compare";
 import { chairWords, memberWords } from "../study/commandWords";
 import { button, h, type Child } from "./dom";
 import { fractionText, grouped } from "../study/fractions";
 import { isolated } from "../study/names";
 import { moveTo } from "./moves";
 import type { Extreme, Tried } from "../engine/orders";
+import { chairsWords } from "../engine/said";
 import type { Place, Standing } from "../engine/standing";
 import { MEASURE } from "../study/words";
 

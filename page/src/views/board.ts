@@ -104,6 +104,6 @@ const WORDS = [
 export function paintBoard(app: App): void {
   if (!app.shown) return;
   const { before, after } = app.shown.counted;
-  patch(byId("board"), table(before, after, app.view.digits),
-    h("details", {}, h("summary", {}, "What these are"), WORDS.map((it) => h("p", { class: "note" }, it))));
+  patch(byId("board"), table(before, after, app.view.digits));
+  patch(byId("board-words"), WORDS.map((it) => h("p", { class: "note" }, it)));
 }

@@ -3,7 +3,7 @@ import type { App, Shown } from "./app";
 import { button, byId, h, type Child } from "./dom";
 import { keepFocus } from "./focus";
 import { counted, grouped } from "../study/fractions";
-import type { Line } from "../engine/columns";
+import { hasGains, type Line } from "../engine/columns";
 import { memberWords } from "../study/commandWords";
 import { closedChair, type Place } from "../engine/standing";
 import { namesChair, namesMember } from "./filter";
@@ -14,7 +14,9 @@ import { KIND_WORDS, rowWords } from "./chairTable";
 import { openChairName } from "./chairName";
 import { openMember } from "./member";
 import { operationButtons } from "./operations";
-import { gridOf, headOf, lineWords, listOf, numbersOf, plotOf, tipOf, votesOf, widthsOf, type List } from "./rows";
+import {
+  gridOf, headOf, lineWords, listOf, numbersOf, plotOf, tagElements, tipOf, votesOf, widthsOf, type List,
+} from "./rows";
 import { openThresholds } from "./thresholds";
 import { hideTip, showTip } from "./tip";
 
@@ -137,7 +139,7 @@ export function listenChairs(app: App): void {
 function headElement(app: App, card: Card, isOpen: boolean, list: List): HTMLElement {
   const { line } = card;
   const parts = [
-    h("span", { class: "card-title" }, card.title),
+    h("span", { class: "who" }, h("span", { class: "card-title" }, card.title), line && tagElements(line)),
     line ? [votesOf(line, list), plotOf(line, list), numbersOf(line, list)] : h("span", { class: "rest" }, card.words),
   ];
   const attributes = { id: `card-${card.place}`, class: "card-head row" };
@@ -208,18 +210,22 @@ function noneCard(members: readonly Place[]): Card {
   return { place: "none", title: "In no chair", line: null, words, members, tail: null, isNamed: false };
 }
 
-/** The card of a chair that could be opened. */
-function newCard(app: App, chair: number): Card {
-  const act = () => app.take(withAdded(app.study, [{ kind: "open", chair }]));
-  const tail = () => button(`Open chair ${chair}`, act, { id: "open-new" });
-  return { place: "new", title: `New chair ${chair}`, line: null, words: "", members: [], tail, isNamed: false };
+/** The card of a chair that is opened when a member comes to it. */
+function newCard(chair: number): Card {
+  return { place: "new", title: `New chair ${chair}`, line: null, words: "", members: [], tail: null, isNamed: false };
+}
+
+/** Opens the next chair. */
+export function openNext(app: App): void {
+  const chair = closedChair(app.shown?.counted.standing.open() ?? []);
+  if (chair !== null) app.take(withAdded(app.study, [{ kind: "open", chair }]));
 }
 
 function cardsOf(app: App, shown: Shown, { columns }: List): Card[] {
   const { standing } = shown.counted;
   const next = closedChair(standing.open());
   const cards = [...columns.lines.map((it) => chairCard(app, shown, it)), noneCard(standing.in(null))];
-  return next === null ? cards : [...cards, newCard(app, next)];
+  return next === null ? cards : [...cards, newCard(next)];
 }
 
 /** Whether the tab that is shown is the list of chairs. */
@@ -231,9 +237,11 @@ export function isList(tab: Tab): boolean {
 export function paintChairs(app: App): void {
   if (!app.shown) return;
   const place = byId("chairs");
-  place.hidden = !isList(app.view.tab) || app.open.isPrinting;
+  const isSame = app.view.tab === "change" && !hasGains(app, app.shown);
+  place.hidden = !isList(app.view.tab) || isSame || app.open.isPrinting;
   if (place.hidden) return;
   const shownList = listOf(app, app.shown);
+  byId("open-new").hidden = closedChair(app.shown.counted.standing.open()) === null;
   const [wide, narrow] = widthsOf(shownList);
   place.style.setProperty("--wide", wide);
   place.style.setProperty("--narrow", narrow);

@@ -136,8 +136,10 @@ function actsOf(app: App, id: number, words: string, at: number, many: number): 
     button(sign, run, { id: `${name}-${id}`, class: "quiet", title: what, "aria-label": `${what}: ${words}`, disabled,
       live: true });
   return [
-    act("↑", "Move up", "up", () => moved(app, id, -1), at === 0),
-    act("↓", "Move down", "down", () => moved(app, id, 1), at === many - 1),
+    ...many === 1 ? [] : [
+      act("↑", "Move up", "up", () => moved(app, id, -1), at === 0),
+      act("↓", "Move down", "down", () => moved(app, id, 1), at === many - 1),
+    ],
     act("✕", "Remove", "remove", remove, false),
   ];
 }

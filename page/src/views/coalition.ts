@@ -9,6 +9,7 @@ import { screenLook } from "../charts/look";
 import type { Reading } from "../engine/reading";
 import { setTicked, ticked } from "../engine/ticks";
 import { MAJORITY } from "../study/words";
+import { answers, fillBar } from "./answers";
 import { chairList, lookedAt, type Looked } from "./coalitionParts";
 import { failures, sizesPart } from "./sizes";
 import { smallestPart } from "./smallest";
@@ -106,6 +107,7 @@ function verdicts(looked: Looked, coalition: ReadonlySet<number>): Child {
     return h("tr", { "data-part": part }, head, cells);
   });
   return h("div", { class: "scroll", tabindex: 0, role: "region", "aria-label": "The coalition at each majority" },
+    h("p", { class: "note" }, "The quota and the least number of chairs are counted; the rest is made here."),
     h("table", { id: "verdict-table" },
       h("thead", {}, h("tr", {}, h("td", {}), heads)),
       h("tbody", {}, rows),
@@ -123,16 +125,19 @@ export function paintCoalition(app: App): void {
     tick(app, () => chairs);
     byId("coalition-words").scrollIntoView({ block: "nearest" });
   };
+  const isAny = coalition.size > 0;
   const parts = [
     failures(looked),
+    answers(looked, tickThem),
     h("fieldset", { id: "ticks", class: "ticks" },
       h("legend", {}, `A coalition of chairs of ${looked.board}`),
       looked.chairs.map((it) => tickBox(looked, it.chair, it.weight, coalition.has(it.chair))),
     ),
     buttons(looked, coalition),
+    fillBar(looked, coalition),
     h("p", { id: "coalition-words", role: "status" }, words(looked, coalition)),
-    h("div", { id: "verdicts" }, verdicts(looked, coalition)),
-    DEFINITIONS.map((it) => h("p", { class: "note" }, it)),
+    h("div", { id: "verdicts" }, isAny && verdicts(looked, coalition)),
+    h("details", {}, h("summary", {}, "What these are"), DEFINITIONS.map((it) => h("p", { class: "note" }, it))),
     h("div", { id: "smallest" }, smallestPart(looked, tickThem)),
     sizesPart(looked, screenLook(app, panel)),
   ];

@@ -4,7 +4,7 @@ import type { App, Shown } from "./app";
 import { valueText } from "../engine/compare";
 import type { Curve } from "../engine/count";
 import { drawCurve, type CurveModel } from "../charts/curveChart";
-import { curveModel, FIRST_SWEEP, thresholdWords } from "../charts/curveModel";
+import { curveModel, thresholdWords } from "../charts/curveModel";
 import { button, byId, choice, h, type Child } from "./dom";
 import { fractionText, grouped, percent } from "../study/fractions";
 import { screenLook } from "../charts/look";
@@ -17,9 +17,14 @@ import { scriptDetails } from "./scriptDetails";
 import { openThresholds } from "./thresholds";
 import { standingOn, whoKey, whoOf, whoOptions, whoThere } from "./who";
 
-/** The fields of the form: those typed so far, else those of the study's sweep. */
+/** The fields of the form before there is a chair. */
+const NO_SWEEP: SweepAsked = {
+  who: { kind: "chair", chair: 1 }, on: "base", unit: "percent", from: "0", to: "10", by: "0.5",
+};
+
+/** The fields of the form: those typed so far, else those of the sweep that is shown. */
 function fieldsOf(app: App, shown: Shown): SweepAsked {
-  const asked = app.open.sweep ?? shown.study.sweep ?? FIRST_SWEEP;
+  const asked = app.open.sweep ?? app.study.sweep ?? app.asked(shown) ?? NO_SWEEP;
   return { ...asked, who: whoThere(standingOn(shown, asked.on), asked.who) };
 }
 
@@ -45,8 +50,9 @@ function run(app: App, typed: SweepAsked): void {
   app.results.forgetProblems();
   app.open.sweep = null;
   app.view = { ...app.view, curveChair: null };
-  if (JSON.stringify(asked) === JSON.stringify(app.study.sweep)) void app.count();
-  else app.take({ ...app.study, sweep: asked });
+  if (JSON.stringify(asked) === JSON.stringify(app.study.sweep)) return void app.count();
+  byId("sweep-results").replaceChildren();
+  app.take({ ...app.study, sweep: asked }, "sweep");
 }
 
 /** The form. Its fields are read when they are used, so that it can stay while the board changes. */
@@ -55,6 +61,12 @@ function form(app: App, shown: Shown): HTMLElement {
   const asked = now();
   const set = (part: Partial<SweepAsked>) => {
     app.open.sweep = { ...now(), ...part };
+    // No curve stands under fields that it isn't of.
+    byId("sweep-results").replaceChildren();
+  };
+  const take = (part: Partial<SweepAsked>) => {
+    set(part);
+    run(app, now());
   };
   const number = (id: "from" | "to" | "by", label: string) => {
     const input: HTMLInputElement = h("input", {
@@ -65,6 +77,7 @@ function form(app: App, shown: Shown): HTMLElement {
       value: asked[id],
       live: true,
       oninput: () => set({ [id]: input.value.trim() }),
+      onchange: () => run(app, now()),
     });
     return h("label", { class: "choice", for: `sweep-${id}` }, h("span", {}, label), input);
   };
@@ -74,9 +87,9 @@ function form(app: App, shown: Shown): HTMLElement {
     run(app, now());
   };
   return h("form", { class: "choices", id: "sweep", live: true, onsubmit: submit },
-    choice("sweep-who", "Sweep", options, whoKey(asked.who), (it) => set({ who: whoOf(it) })),
+    choice("sweep-who", "Sweep", options, whoKey(asked.who), (it) => take({ who: whoOf(it) })),
     choice("sweep-on", "on", [["base", "the base"], ["changed", "the changed board"]], asked.on, (it) => {
-      set({ on: it === "base" ? "base" : "changed" });
+      take({ on: it === "base" ? "base" : "changed" });
       app.repaint();
     }),
     number("from", "from"), number("to", "to"), number("by", "by"),
@@ -85,7 +98,7 @@ function form(app: App, shown: Shown): HTMLElement {
       "unit",
       [["percent", "per cent of the total"], ["votes", "votes"]],
       asked.unit,
-      (it) => set({ unit: it === "votes" ? "votes" : "percent" }),
+      (it) => take({ unit: it === "votes" ? "votes" : "percent" }),
     ),
     h("button", { id: "sweep-run" }, "Count the sweep"),
     button("Find thresholds…", () => openThresholds(app, now().who, now().on), { id: "find-open", live: true }),
@@ -159,7 +172,7 @@ function results(app: App, model: CurveModel, found: Curve): Child {
 /** What is said of the sweep: what was counted in which time, or why it wasn't. */
 function sweepWords(app: App): string {
   const { sweep, shown } = app;
-  if (!sweep) return shown?.study.sweep ? "The sweep is being counted." : "";
+  if (!sweep) return shown && app.asked(shown) ? "The sweep is being counted." : "";
   if ("problem" in sweep) return `This can't be swept: ${sweep.problem}.`;
   const points = `${sweep.points.length} points at ${sweep.majorities.length} majorities`;
   const workers = sweep.desks > 1 ? ` with ${sweep.desks} workers running` : "";
@@ -173,15 +186,16 @@ export function paintCurve(app: App): void {
   const panel = byId("panel");
   panel.dataset["sweep"] = curve ? curve.milliseconds.toFixed(0) : "";
   if (!panel.firstChild) panel.append(...["sweep-form", "sweep-results"].map((id) => h("div", { id })));
-  patch(byId("sweep-form"), form(app, shown), h("p", { id: "sweep-words", role: "status" }, sweepWords(app)));
+  const said = h("p", { id: "sweep-words", class: "note", role: "status" }, sweepWords(app));
+  patch(byId("sweep-form"), form(app, shown), said);
   const place = byId("sweep-results");
-  const isCounting = shown.study.sweep !== null && !sweep;
+  const isCounting = app.asked(shown) !== null && !sweep;
   place.classList.toggle("old", isCounting);
   if (isCounting) return;
   const model = curveModel(app);
   const chart = h("div", { class: "chart" });
   if (model) drawCurve(chart, model, screenLook(app, panel));
   const script = () => app.curve?.script ?? "";
-  patch(place, model && curve && [results(app, model, curve), chart, tableOf(app, model, curve),
+  patch(place, model && curve && [chart, results(app, model, curve), tableOf(app, model, curve),
     scriptDetails("sweep-script", "this sweep", script)]);
 }

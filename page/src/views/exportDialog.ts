@@ -142,7 +142,7 @@ export function openExports(app: App): void {
   const content: Readonly<Record<Group, Child>> = {
     Figure: figureGroup(app, shown, make),
     Table: tableGroup(app, make),
-    Sentences: sentenceList(app, "export-sentence", say),
+    Sentences: sentenceList(app, "export-sentence", say, true),
     "Whole study": studyGroup(app, make),
     Citation: citationGroup(app),
   };

@@ -12,7 +12,7 @@ import { tableBehind } from "./chartParts";
 import { isList } from "./chairs";
 import { paintCoalition } from "./coalition";
 import { paintCurve } from "./curve";
-import { markOf, SHORT } from "./rows";
+import { isNarrow, markOf, namingChoice, SHORT } from "./rows";
 import { paintSentences } from "./sentences";
 import { MOST_STEPS } from "../engine/steps";
 import {
@@ -69,6 +69,9 @@ function paintChoices(app: App): void {
   const display = h("details", { id: "display", class: "menu" },
     h("summary", {}, "Display"),
     h("div", { class: "menu-body" },
+      // A phone has room for the majorities only; the list's head has the names elsewhere.
+      isNarrow() && measure,
+      (isNarrow() || !isList(view.tab)) && namingChoice(app),
       choice("order", "Order by", orders, view.order, (it) => app.look({ order: it as Order })),
       choice("order-at", "at", ats, view.orderAt, (it) => app.look({ orderAt: it as Majority })),
       choice("digits", "Digits", digits, String(view.digits), (it) => app.look({ digits: Number(it) })),
@@ -76,7 +79,7 @@ function paintChoices(app: App): void {
       tableChoices(app),
     ),
   );
-  patch(byId("choose"), measure, majorityButtons(app), display);
+  patch(byId("choose"), isNarrow() ? null : measure, majorityButtons(app), display);
 }
 
 const THING_WORDS: Readonly<Record<Thing, string>> = {
@@ -159,9 +162,13 @@ function paintUnderList(app: App, columns: Columns, draw: Draw): void {
   if (model.majorities.length) draw(chart, model, screenLook(app, chart));
 }
 
+const NO_GAINS =
+  "Nothing is changed yet. On the tab Power, open a chair's row, and drag a member to another row or click on it to " +
+  "alter its votes; or paste a second table to compare the two.";
+
 function paintGains(app: App, columns: Columns): void {
   if (app.shown && hasGains(app, app.shown)) return paintUnderList(app, columns, drawGains);
-  paint(byId("panel"), h("p", { class: "note" }, "No change was carried out yet: changed and base are the same."));
+  paint(byId("panel"), h("p", {}, NO_GAINS));
 }
 
 /** The tabs: their words, and what they show beside the list of chairs or instead of it. */
@@ -177,7 +184,7 @@ export function paintFigures(app: App): void {
   const { shown, view, results, open } = app;
   if (!shown) return;
   const { majorities, measure, digits, tab } = view;
-  app.part("choices", [view], () => paintChoices(app));
+  app.part("choices", [view, shown, isNarrow()], () => paintChoices(app));
   app.part("tabs", [tab], () => paintTabs(app));
   app.part("sentences", [shown, majorities, measure, digits], () => paintSentences(app));
   const columns = columnsOf(app, shown);

@@ -9,13 +9,14 @@ import { notes } from "./note";
 import { fitTables } from "./paper";
 import { sheets } from "./sheets";
 import { saysMore } from "../tables/html";
+import { VERSION } from "../study/made";
 import { withChanges } from "../study/study";
 import { openBest } from "./best";
 import { openExports, saveStudy } from "./exportDialog";
 import { openSeal } from "./foot";
 import { openAdmit } from "./member";
 import { openGroup } from "./operations";
-import { listenChairs, paintChairs } from "./chairs";
+import { listenChairs, openNext, paintChairs } from "./chairs";
 import { openRecount } from "./recount";
 import { orRefuse } from "./refusal";
 import { hideTip } from "./tip";
@@ -85,6 +86,8 @@ function watchScreen(app: App): void {
   });
   const paintFor = (isPaper: boolean) => {
     app.open.isPrinting = isPaper;
+    const date = new Date().toISOString().slice(0, 10);
+    byId("printed").textContent = isPaper ? `Counted by board ${VERSION}, printed ${date}.` : "";
     app.repaint();
   };
   addEventListener("beforeprint", () => {
@@ -110,15 +113,17 @@ function buttons(app: App): void {
     app.repaint();
     byId("paste").focus();
   });
-  // The menu Display closes at a click elsewhere and by Escape.
-  const display = () => document.querySelector<HTMLDetailsElement>("#display[open]");
+  onClick("open-new", () => openNext(app));
+  // A menu closes at a click elsewhere and by Escape.
+  const menu = () => document.querySelector<HTMLDetailsElement>(".menu[open]");
   document.addEventListener("pointerdown", (event) => {
-    const open = display();
-    if (open && !open.contains(event.target as Node)) open.open = false;
+    const open = menu();
+    // A dialog that the menu opened gives it the focus back.
+    if (open && !open.contains(event.target as Node) && !document.querySelector("dialog[open]")) open.open = false;
   });
   document.addEventListener("keydown", (event) => {
-    const open = display();
-    if (event.key !== "Escape" || !open) return;
+    const open = menu();
+    if (event.key !== "Escape" || !open || document.querySelector("dialog[open]")) return;
     open.open = false;
     open.querySelector("summary")?.focus();
   });

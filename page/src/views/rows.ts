@@ -4,11 +4,13 @@ import type { App, Shown } from "./app";
 import { axisText, markPath, onAxis } from "../charts/charts";
 import { columnsOf, type Columns, type Line } from "../engine/columns";
 import { gainText, gainUnit, valueText, type ChairRow } from "../engine/compare";
-import { h, svg, type Child } from "./dom";
+import { choice, h, svg, type Child } from "./dom";
+import { kindWords, meanings, tagsOf } from "../engine/kinds";
 import { difference, grouped, percent, quotient, rounded, type Ratio } from "../study/fractions";
 import { isolated } from "../study/names";
 import { measureOf, type ChairReading } from "../engine/reading";
-import type { Order, View } from "../study/study";
+import { withNaming } from "../study/naming";
+import { NAMINGS, type Naming, type Order, type View } from "../study/study";
 import { MAJORITY, MEASURE, type Majority } from "../study/words";
 
 /** The majorities where there is little room. */
@@ -71,9 +73,14 @@ export function listOf(app: App, shown: Shown): List {
   return { columns, view, isGain, isChanged, hasAdded, scale, ticks: scale.ticks(many), majorities };
 }
 
+/** Whether the window is a phone's. */
+export function isNarrow(): boolean {
+  return innerWidth <= 700;
+}
+
 /** About how wide a panel is, which decides how many ticks its axis has. It measures nothing. */
 function plotWidth({ list, isOne }: Columns, { majorities }: View): number {
-  if (innerWidth <= 700) return (innerWidth - 40) / list.length;
+  if (isNarrow()) return (innerWidth - 40) / list.length;
   const rest = innerWidth - (innerWidth > 1000 ? 400 : 30) - 400;
   const many = majorities.length;
   return isOne ? Math.min(rest - 130 * Math.min(2, many), rest - 80 * many) : rest / list.length;
@@ -192,9 +199,35 @@ export function votesOf(line: Line, { view, isGain }: List): Child {
   ];
 }
 
+/** The row of a line's last column. */
+function lastRow({ cells }: Line): ChairRow | undefined {
+  return cells[cells.length - 1];
+}
+
+/** What stands beside a chair's name: whether it has a veto, and at which majorities. No text of a table that is
+ * copied has it, since its words are the style's. */
+export function tagElements(line: Line): Child {
+  const row = lastRow(line);
+  return row ? tagsOf(row.at).map(({ words, turn, majorities }) =>
+    h("span", { class: `tag ${turn}`, "data-words": words }, majorities.map((it) => markOf(it)))) : null;
+}
+
+/** The chair's veto at each majority, in words. */
+function kindsOf(line: Line, { columns, majorities }: List): string[] {
+  const { readings } = columns.list[columns.list.length - 1] ?? {};
+  return majorities.flatMap((it) => kindWords(readings?.get(it), lastRow(line)?.at.get(it)?.after) || []);
+}
+
+/** What the tags of a list mean. */
+function tagLegend({ columns: { lines } }: List): Child {
+  const tags = lines.flatMap((it) => tagsOf(lastRow(it)?.at ?? new Map()));
+  return meanings(tags).map(({ tag, words }) => h("span", {}, h("span", { class: "tag", "data-words": tag }), words));
+}
+
 /** A line in words, for who hears it. */
-export function lineWords(line: Line, { view, majorities, columns }: List): string {
-  const row = line.cells[line.cells.length - 1];
+export function lineWords(line: Line, list: List): string {
+  const { view, majorities, columns } = list;
+  const row = lastRow(line);
   const [first] = row?.at.values() ?? [];
   const weight = first?.after?.weight ?? first?.before?.weight ?? 0;
   const share = row?.votesAfter ? `, ${percent(row.votesAfter, view.digits)} %` : "";
@@ -206,7 +239,8 @@ export function lineWords(line: Line, { view, majorities, columns }: List): stri
   });
   const name = `${line.chair} ${isolated(line.name)}`;
   const which = columns.isOne ? "" : ` (${columns.list[columns.list.length - 1]?.label ?? ""})`;
-  return `${name}: ${grouped(weight)} votes${share}; ${MEASURE[view.measure].label}${which}: ${powers.join("; ")}`;
+  return `${name}: ${grouped(weight)} votes${share}; ${MEASURE[view.measure].label}${which}: ` +
+    [...powers, ...kindsOf(line, list)].join("; ");
 }
 
 /** The numbers of a line as a small table: base, and each column. */
@@ -249,6 +283,7 @@ export function tipOf(line: Line, list: List): Child {
         powers,
       ),
     ),
+    kindsOf(line, list).map((it) => h("p", {}, it)),
   ];
 }
 
@@ -260,6 +295,21 @@ function sorter(app: App, order: Order, at: Majority | null, words: Child, name:
   const id = `sort-${order}${at === null ? "" : `-${at}`}`;
   return h("button", { type: "button", id, class: `sorter ${kind}`, "aria-pressed": String(isOn), onclick: act,
     live: true, title: `Order by ${name}`, "aria-label": `Order by ${name}` }, words);
+}
+
+const NAMING_WORDS: Readonly<Record<Naming, string>> = {
+  given: "by given name", member: "by largest member", both: "by both",
+};
+
+/** The choice of what chairs are named by, where the table or a user gave them names. */
+export function namingChoice(app: App): Child {
+  const { naming = "given" } = app.study.base;
+  const standing = app.shown?.counted.standing;
+  if (!standing?.open().some((it) => standing.given(it))) return null;
+  const options = NAMINGS.map((it): [string, string] => [it, NAMING_WORDS[it]]);
+  const made = choice("naming", "Name chairs", options, naming, (it) => app.take(withNaming(app.study, it as Naming)));
+  made.title = "What chairs are named by: their names in the table, such as Directors, or their largest members";
+  return made;
 }
 
 /** The axis of a panel, with its name if there are several. */
@@ -285,14 +335,17 @@ export function headOf(app: App, list: List): Child {
   const power = `${MEASURE[measure].label}${unit ? `, ${unit}` : ""}`;
   return [
     sorter(app, "number", null, "Chair", "number", "chair-head"),
+    isNarrow() ? null : namingChoice(app),
     sorter(app, "votes", null, isGain ? "Votes added" : "Votes", "votes", "votes-number"),
     h("span", { class: "cell unit" }, isGain ? "points" : "%"),
     h("span", { class: "plot axes" },
       h("span", { class: "legend" },
         measure === "share" ? h("span", {}, h("i", { class: "key votes" }), isGain ? "votes" : "share of votes") : null,
         h("span", {}, majorities.map((it) => markOf(it)), power.replace(/^./, (it) => it.toLowerCase())),
-        isChanged && !isGain ? h("span", {}, majorities.slice(0, 1).map((it) => markOf(it, true)),
+        isChanged && !isGain ? h("span", {}, measure === "share" ? h("i", { class: "key was" }) : null,
+          majorities.slice(0, 1).map((it) => markOf(it, true)),
           view.against === "before" && !columns.isOne ? "the one before" : "before") : null,
+        tagLegend(list),
       ),
       h("span", { class: "axis-row" }, names.map((it) => axisOf(list, it))),
     ),
@@ -313,7 +366,7 @@ export function widthsOf({ columns, view, isGain, hasAdded, majorities }: List):
   const least = columns.isOne ? "8rem" : `${panels * 5}rem`;
   const narrow = columns.isOne ? majorities.map(() => value).join(" ") : "";
   return [
-    `minmax(8rem, ${hasAdded ? 12 : 14}rem) ${isGain ? 6 : 5}rem ${share} minmax(${least}, 1fr)${many}`,
+    `minmax(8rem, 14rem) ${isGain ? 6 : 5}rem ${share} minmax(${least}, 1fr)${many}`,
     `minmax(0, 1fr) ${share} ${narrow}`,
   ];
 }

@@ -1,10 +1,11 @@
 /** Named scenarios in their order: the greatest gain and the greatest loss of each at each majority. */
 import type { App } from "./app";
 import { MEASURE_NAMES } from "../cited";
-import { chairRows, emptySentence, extremeCell, type Said } from "../engine/compare";
+import { chairRows, emptySentence, extremeCell } from "../engine/compare";
 import { button, byId, h, type Child } from "./dom";
 import { isolated } from "../study/names";
 import { patch } from "./patch";
+import type { Said } from "../engine/said";
 import { freshId, withChanges, type Scenario, type Study } from "../study/study";
 import { MAJORITY } from "../study/words";
 

@@ -1,9 +1,10 @@
 /** The sentences above the tabs, each with a button that copies it with its source. */
 import type { App, Shown } from "./app";
 import { copy } from "../exports/clipboard";
-import { chairRows, sentences, type Said } from "../engine/compare";
+import { chairRows, sentences } from "../engine/compare";
 import { button, byId, h, icon, type Child } from "./dom";
 import { patch } from "./patch";
+import type { Said } from "../engine/said";
 import { provenanceOf, studySource } from "../study/provenance";
 import { MAJORITY } from "../study/words";
 import { markOf } from "./rows";
@@ -58,11 +59,13 @@ function saidOf(app: App, { counted }: Shown): Said[] {
   return sentences(chairRows(counted, app.view), counted, app.view);
 }
 
-/** The sentences with a button each, and one for all. Their ids begin with a word. */
-export function sentenceList(app: App, id: string, say: (words: string) => void): Child {
+/** The sentences with a button for all, and where there is room with one each. Their ids begin with a word. */
+export function sentenceList(app: App, id: string, say: (words: string) => void, hasEach: boolean): Child {
   const { shown, view } = app;
   if (!shown) return null;
   const all = saidOf(app, shown);
+  // A phone shows the sentence on a veto above the list, else the first.
+  const main = Math.max(0, all.findIndex((it) => it.isLead));
   // A screen reader that reads sentences as they change doesn't read the buttons.
   const quiet = (...made: HTMLElement[]) => h("span", { "aria-live": "off" }, made);
   return all.map((it, at) => {
@@ -72,14 +75,15 @@ export function sentenceList(app: App, id: string, say: (words: string) => void)
     const one = copier(app, { id: `${id}-${majority}`, name, words: "", said, say });
     const everyName = "Copy all sentences";
     const every = { id: `${id}-all`, name: everyName, words: "all", said: (now: Shown) => saidOf(app, now), say };
-    const isLast = all.length > 1 && at === all.length - 1;
-    return h("div", { class: "said" },
-      markOf(majority), h("p", { title: it.source }, it.words), quiet(one, ...(isLast ? [copier(app, every)] : [])));
+    const isLast = (all.length > 1 || !hasEach) && at === all.length - 1;
+    const copiers = [...hasEach ? [one] : [], ...isLast ? [copier(app, every)] : []];
+    return h("div", { class: at === main ? "said main" : "said" },
+      markOf(majority), h("p", { title: it.source }, it.words), quiet(...copiers));
   });
 }
 
 /** Paints the sentences above the list: they stay as they are while they say the same. */
 export function paintSentences(app: App): void {
   const { shown } = app;
-  if (shown) patch(byId("sentences"), sentenceList(app, "copy", (words) => (byId("live").textContent = words)));
+  if (shown) patch(byId("sentences"), sentenceList(app, "copy", (words) => (byId("live").textContent = words), false));
 }

@@ -1,5 +1,7 @@
 /** The smallest winning coalitions with a chair, and the chairs that have a veto. */
-import { blockingRule, smallestWith, subsetsWithout, vetoChairs, votesOf, type Smallest } from "../engine/coalitions";
+import {
+  blockingRule, ruleWithout, smallestWith, subsetsWithout, vetoChairs, votesOf, type Smallest,
+} from "../engine/coalitions";
 import { button, choice, h, type Child } from "./dom";
 import { counted, grouped } from "../study/fractions";
 import { isolated } from "../study/names";
@@ -12,6 +14,12 @@ const MOST_LISTED = 20;
 
 type TickThem = (chairs: readonly number[]) => void;
 
+/** The chair that is in all of the coalitions, and the one that is in none of them; null for any and none. */
+interface Wanted {
+  readonly chair: number | null;
+  readonly without: number | null;
+}
+
 /** A reading, and its smallest winning or blocking coalitions with the chosen chair. */
 interface Found {
   readonly reading: Reading;
@@ -19,7 +27,7 @@ interface Found {
   readonly smallest: Smallest | null;
 }
 
-function tableOf(looked: Looked, chair: number, found: readonly Found[]): HTMLElement {
+function tableOf(looked: Looked, { chair, without }: Wanted, found: readonly Found[]): HTMLElement {
   const { isBlocking } = looked.app.open.ticks;
   const heads = ["Least number of chairs", ...isBlocking ? [] : ["Winning coalitions with this number"]];
   const rows = found.map(({ reading: { majority }, smallest }) =>
@@ -31,7 +39,8 @@ function tableOf(looked: Looked, chair: number, found: readonly Found[]): HTMLEl
   );
   return h("div", { class: "scroll" },
     h("table", { id: "smallest-table" },
-      h("caption", {}, "With ", chairList(looked, [chair])),
+      h("caption", {}, chair === null ? "Of any chairs" : ["With ", chairList(looked, [chair])],
+        without === null ? null : [", without ", chairList(looked, [without])]),
       h("thead", {},
         h("tr", {}, h("td", {}), heads.map((it) => h("th", { scope: "col", "data-mark": "made here" }, it)))),
       h("tbody", {}, rows),
@@ -108,7 +117,7 @@ function blocking({ readings }: Looked): Child {
 }
 
 /** The choice of a chair, of a majority, and of coalitions that win or that can block. */
-function choices(looked: Looked, chair: number): HTMLElement {
+function choices(looked: Looked, { chair, without }: Wanted): HTMLElement {
   const { app, chairs, names, readings } = looked;
   const { at } = app.open.ticks;
   const options = chairs.map((it) => [String(it.chair), `${it.chair} ${isolated(names.get(it.chair) ?? "")}`] as const);
@@ -123,29 +132,43 @@ function choices(looked: Looked, chair: number): HTMLElement {
     choice("smallest-kind", "Coalitions", kinds, isBlocking ? "blocking" : "winning", (it) => {
       again({ isBlocking: it === "blocking" });
     }),
-    choice("smallest-chair", "With chair", options, String(chair), (it) => again({ chair: Number(it) })),
+    choice("smallest-chair", "With chair", [["any", "any"], ...options], String(chair ?? "any"), (it) => {
+      again({ chair: it === "any" ? it : Number(it) });
+    }),
+    choice("smallest-without", "without", [["", "none"], ...options.filter(([it]) => it !== String(chair))],
+      String(without ?? ""), (it) => again({ without: it ? Number(it) : null })),
     choice("smallest-at", "list at", ats, readingAt(looked, at)?.majority ?? "", (text) => {
       again({ at: MAJORITIES.find((it) => it === text) ?? null });
     }),
   );
 }
 
+/** The chairs that are chosen, if they are open; at first the first one. */
+function wantedOf({ app: { open: { ticks } }, chairs }: Looked): Wanted {
+  const isOpen = (it: number | "any" | null) => chairs.some(({ chair }) => chair === it);
+  const first = isOpen(ticks.chair) ? ticks.chair as number : chairs[0]?.chair ?? null;
+  const chair = ticks.chair === "any" ? null : first;
+  return { chair, without: isOpen(ticks.without) && ticks.without !== chair ? ticks.without : null };
+}
+
 /** The part of the tab with the smallest winning coalitions and the chairs with a veto. */
 export function smallestPart(looked: Looked, tickThem: TickThem): Child {
   const { app: { open: { ticks } }, chairs, readings } = looked;
-  const { chair = 0 } = chairs.find((it) => it.chair === ticks.chair) ?? chairs[0] ?? {};
-  const others = subsetsWithout(chairs, chair);
+  const wanted = wantedOf(looked);
+  const { chair, without } = wanted;
+  const others = subsetsWithout(chairs.filter((it) => it.chair !== without), chair);
   const { isBlocking } = ticks;
   const found = readings.map((reading): Found => {
-    const rule = isBlocking ? blockingRule(reading, chair) : reading;
-    return { reading, isBlocking, smallest: smallestWith(rule, chair, others, MOST_LISTED) };
+    const rule = isBlocking ? blockingRule(reading, chair, without) : ruleWithout(reading, without);
+    const isAny = chair !== null || reading.winning > 0;
+    return { reading, isBlocking, smallest: isAny ? smallestWith(rule, chair, others, MOST_LISTED) : null };
   });
   const listed = found.find((it) => it.reading === readingAt(looked, ticks.at));
   return [
     h("h3", {}, "Smallest coalitions"),
-    h("p", { class: "note" }, "Of all coalitions with a chair that win or can block, those with the fewest chairs."),
-    choices(looked, chair),
-    tableOf(looked, chair, found),
+    h("p", { class: "note" }, "Of all coalitions that win or can block, those with the fewest chairs."),
+    choices(looked, wanted),
+    tableOf(looked, wanted, found),
     listed ? listOf(looked, listed, tickThem) : null,
     vetoes(looked),
     blocking(looked),

@@ -392,21 +392,29 @@ export function openTable(app: App, source: Source): void {
 
 /** Asks for a table that is pasted as text. One that says more as HTML is read at once. */
 export function openPaste(read: (text: string, name: string) => void): void {
-  openDialog("paste-dialog", "Paste a table", (close) => {
+  let pasted = (_: ClipboardEvent): void => {};
+  const dialog = openDialog("paste-dialog", "Paste a table", (close) => {
     const area = h(
       "textarea",
-      { id: "paste-text", "aria-label": "Cells from a spreadsheet, a CSV, or a script", spellcheck: "false" },
+      {
+        id: "paste-text", "aria-label": "Cells from a spreadsheet, a CSV, or a script", spellcheck: "false",
+        autofocus: true,
+      },
     );
     const act = (text = area.value) => {
       close();
       read(text, "Pasted table");
     };
-    area.addEventListener("paste", (event) => {
-      const html = event.clipboardData?.getData("text/html") ?? "";
-      if (area.value || !saysMore(html)) return;
+    pasted = (event) => {
+      const [html, plain] = ["text/html", "text/plain"].map((it) => event.clipboardData?.getData(it) ?? "");
+      const isMore = !area.value && saysMore(html ?? "");
+      if (event.target === area && !isMore) return;
       event.preventDefault();
-      act(`<html>${html}`);
-    });
+      event.stopPropagation();
+      if (isMore) return act(`<html>${html}`);
+      area.value += plain ?? "";
+      area.focus();
+    };
     return [
       h(
         "p",
@@ -418,4 +426,5 @@ export function openPaste(read: (text: string, name: string) => void): void {
       h("div", { class: "buttons" }, button("Read the table", () => act(), { id: "paste-take", class: "primary" })),
     ];
   });
+  dialog.addEventListener("paste", (event) => pasted(event));
 }

@@ -4,10 +4,10 @@ from __future__ import annotations
 from collections.abc import Mapping, Sequence
 from fractions import Fraction
 from itertools import groupby
-from typing import TYPE_CHECKING
+from typing import TYPE_CHECKING, Optional
 
 from .names import BEGINNINGS, FINDINGS, MEASURES, Majority
-from .results import IndexName
+from .results import Chair, IndexName, Indices
 
 if TYPE_CHECKING:
     from .studies import Result, Swept, Threshold
@@ -18,6 +18,9 @@ PLACES, PERCENT_PLACES = 6, 3
 #: The chairs that a sentence names at most; the others are counted.
 MOST_NAMED = 3
 UNITS = [10**places for places in range(11)]
+#: The per cent of the votes that a majority asks for, and the kinds of power with which nothing passes without a chair.
+PARTS: dict[Majority, int] = {"half": 50, "70": 70, "85": 85, "quorum": 50}
+VETOES = ("alone", "veto")
 #: What begins to hold at a threshold, and what ends.
 WORDS = {
     ("prevents", True): "has a veto",
@@ -107,19 +110,104 @@ def most_sentence(result: Result, majority: Majority, index: IndexName) -> str:
     return finding("most", result, chairs, votes=FINDINGS["votes"].format(share=share), **words)
 
 
+def kind_of(found: Indices, swings: int) -> str:
+    """What a chair's power is in kind: "alone", "veto", "powerless", or none of them."""
+    if found.omega and not swings:
+        return "powerless"
+    if not found.omega or swings != found.omega:
+        return ""
+    return "alone" if swings == found.coalitions - found.omega else "veto"
+
+
+def veto_margin(found: Indices, weight: int) -> Optional[int]:
+    """How many votes a chair could lose and still have its veto, while all others keep theirs; below 0, how many it
+    lacks. None if it has a veto by the number of chairs, whatever its votes are."""
+    if len(found.numbers) - 1 < found.least_size:
+        return None
+    part, others, is_half = PARTS[found.majority], found.cast - weight, found.majority == "half"
+    # A simple majority is more than half of the votes cast; the others are a part of the total.
+    rest = others if is_half else found.total - weight
+    to_stop = 100 * others // part - rest + (not is_half)
+    to_pass = -((100 * others - part * rest) // (100 - part))
+    return weight - max(to_stop, to_pass, int(others == 0), 0)
+
+
+def veto_turns(result: Result, majority: Majority) -> dict[str, list[Chair]]:
+    """The chairs that decide alone, and those that gain, lose, have or keep a veto."""
+    found, base = result.indices[majority], result.base
+    turns: dict[str, list[Chair]] = {it: [] for it in ("alone", "gets", "drops", "has", "keeps")}
+    for chair in found.chairs:
+        earlier = result.before(majority, chair.chair) if base else None
+        now = kind_of(found, chair.swings)
+        then = kind_of(base.indices[majority], earlier.swings) if base and earlier else ""
+        has, had = now in VETOES, then in VETOES
+        if now == "alone" and then != "alone":
+            turns["alone"].append(chair)
+        elif has:
+            turns["has" if base is None else "keeps" if had else "gets"].append(chair)
+        elif had:
+            turns["drops"].append(chair)
+    return turns
+
+
+def turn_words(result: Result, majority: Majority, turn: str, chairs: Sequence[Chair]) -> str:
+    """What a sentence says of chairs whose vetoes became the same."""
+    nothing = FINDINGS["meets" if majority == "quorum" else "passes"]
+    margins = [veto_margin(result.indices[majority], it.weight) for it in chairs]
+    names = [result.named(it.chair) for it in chairs]
+    if len(chairs) == 1:
+        many = margins[0] or 0
+        which = "just" if not many else "more" if many > 0 else "fewer"
+        end = "" if margins[0] is None else FINDINGS[which].format(votes=counted(abs(many), "vote"))
+        return FINDINGS[f"{turn}_one"].format(chairs=names[0], margin=end, nothing=nothing)
+    spare = [
+        name if many is None or many < 0 else FINDINGS["spare"].format(chair=name, votes=counted(many, "vote"))
+        for name, many in zip(names, margins)
+    ]
+    several = f"{'has' if turn == 'alone' else turn}_several"
+    return FINDINGS[several].format(chairs=listed(spare), nothing=nothing)
+
+
+def veto_words(result: Result, majority: Majority) -> str:
+    """The beginning of a sentence: who has a veto, or gains, keeps or loses it; empty if nobody does."""
+    turns = veto_turns(result, majority).items()
+    said = "; ".join(turn_words(result, majority, turn, chairs) for turn, chairs in turns if chairs)
+    return said and FINDINGS["vetoes"].format(at=BEGINNINGS[majority], vetoes=said)
+
+
+def rest_words(result: Result, majority: Majority) -> str:
+    """The end of a sentence on a base: who has no power, and whose votes give no more power than far fewer do."""
+    found = result.indices[majority]
+    none = [it.chair for it in found.chairs if kind_of(found, it.swings) == "powerless"]
+    powerless = finding("powerless", result, none) if none else ""
+    pairs = [
+        (one, other)
+        for one in found.chairs
+        for other in found.chairs
+        if one.swings == other.swings > 0 and 10 * other.weight <= 9 * one.weight
+    ]
+    if not pairs:
+        return powerless
+    more, less = max(pairs, key=lambda it: it[0].weight - it[1].weight)
+    words = {"more": result.named(more.chair), "less": result.named(less.chair)}
+    return powerless + FINDINGS["equal"].format(votes=f"{more.weight:,}", fewer=f"{less.weight:,}", **words)
+
+
 def gain_sentence(result: Result, majority: Majority, index: IndexName) -> str:
-    """The greatest gain and loss at a majority; of a base the greatest value."""
+    """Vetoes, and the greatest gain and loss at a majority; of a base the greatest value, or vetoes."""
     at, found = BEGINNINGS[majority], result.indices[majority]
     if not found.omega:
         return FINDINGS["none_wins"].format(at=at, cast=f"{found.cast:,}", total=f"{found.total:,}")
+    lead = veto_words(result, majority)
     if result.base is None:
-        return most_sentence(result, majority, index)
+        return (lead or most_sentence(result, majority, index)) + rest_words(result, majority)
     if not result.base.indices[majority].omega:
         return FINDINGS["none_before"].format(at=at)
     over, under = result.gains_over(index, majority)
     gain, loss = (most_words(result, index, over, under, name) for name in ("gain", "loss"))
     opened = opened_words(result, result.base, majority, index)
-    return FINDINGS["gains"].format(at=at, measure=NAMES[index], gain=gain, loss=loss, opened=opened)
+    pattern = FINDINGS["gains_then" if lead else "gains"]
+    return lead + pattern.format(at=at, measure=NAMES[index], gain=gain, loss=loss, opened=opened)
 
 
 def kind_words(result: Result, chairs: Sequence[int], words: str) -> str:
