@@ -68,7 +68,10 @@ async function sweptBy(many: number) {
   const { pool, hands, place } = await pooled(many);
   const reports: number[] = [];
   const task = sweepOver(pool, place, MAJORITIES, SWEEP, (it) => reports.push(it));
-  const { points, thresholds, chair, rest, desks } = await task.answer;
+  const { points: given, thresholds, chair, rest, desks } = await task.answer;
+  const points = given.map((point) => ({ ...point, readings: point.readings.map(({ chairs, act, ...it }) => {
+    return { ...it, act, chairs: chairs.map(({ share, ratio, ...own }) => ({ ...own, share, ratio })) };
+  }) }));
   return { found: { points, thresholds, chair, rest }, desks, hands, reports };
 }
 

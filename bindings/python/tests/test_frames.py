@@ -1,6 +1,7 @@
 """Arrays of numpy, tables of pandas and charts of matplotlib."""
 from __future__ import annotations
 
+import pickle
 import sys
 from collections.abc import Callable
 from fractions import Fraction
@@ -23,6 +24,9 @@ from voting_board import (
     indices_of_members,
     replay,
 )
+
+from voting_board.many import ARRAYS
+from voting_board.results import INDEX_NAMES
 
 matplotlib.use("Agg")
 BOARD = indices([50, 49, 1], "half")
@@ -174,6 +178,83 @@ def test_many_as_a_table() -> None:
         own = [getattr(chair, name) for counts in many for it in counts.values() for chair in it.chairs]
         assert list(many.to_dataframe(floats=False)[name]) == own
     assert many.share.dtype == "float64" and many.share.shape == (2, 2, 2) and many.act.shape == (2, 2)
+
+
+def test_labels() -> None:
+    # Catches: a panel by year that can't be joined with what else is known of the years.
+    table = pandas.DataFrame({"North": [50, 1], "South": [49, 2]}, index=pandas.Index([1991, 2026], name="year"))
+    many = indices_of_many(table, ["half", "85"])
+    assert many.to_dataframe()["board"].tolist() == [1991] * 4 + [2026] * 4
+    assert list(many.labels) == list(pickle.loads(pickle.dumps(many)).labels) == [1991, 2026]
+    assert "<td>2026</td><td>85</td>" in many._repr_html_() and "<th>South</th>" in many._repr_html_()
+    both = table.set_index(pandas.MultiIndex.from_tuples([("a", 1), ("b", 2)]))
+    assert set(indices_of_many(both, ["half"]).to_dataframe()["board"]) == {("a", 1), ("b", 2)}
+    days = table.set_index(pandas.to_datetime(["1991-01-01", "2026-01-01"]))
+    assert indices_of_many(days, ["half"]).to_dataframe()["board"].dt.year.tolist() == [1991, 1991, 2026, 2026]
+    series = pandas.Series([[1, 2], [3]], index=["x", "y"])
+    assert indices_of_many(series, ["half"]).to_dataframe()["board"].tolist() == ["x", "x", "y"]
+    assert indices_of_many(table.to_numpy(), ["half"]).to_dataframe()["board"].tolist() == [0, 0, 1, 1]
+    with pytest.raises(Refused, match="^board 2: weight 1 is -1: ") as caught:
+        indices_of_many(table.assign(North=[50, -1]), ["half"])
+    assert caught.value.board == 2026
+    # Names are there once, however many boards have them.
+    assert many._names == {1: "North", 2: "South"} and many.names == (many._names,) * 2
+
+
+@pytest.mark.parametrize("kind", ["int8", "uint16", "int64", "uint64", ">i4", "float16", "float32", "float64"])
+def test_arrays_and_rows_agree(kind: str) -> None:
+    rows = numpy.random.default_rng(7).integers(0, 100, (300, 9)).astype(kind)
+    wanted = indices_of_many([list(map(int, row)) for row in rows], MAJORITIES)
+    for given in (rows, numpy.asfortranarray(rows), rows[::-1][::-1], pandas.DataFrame(rows)):
+        many = indices_of_many(given, MAJORITIES)
+        for name in (*ARRAYS, *INDEX_NAMES, "act"):
+            found = getattr(many, name)
+            assert (found.dtype, found.tobytes()) == (getattr(wanted, name).dtype, getattr(wanted, name).tobytes())
+    kept = rows.copy()
+    many = indices_of_many(rows, ["half"])
+    rows[0] = 0
+    assert (many.weights == kept).all()
+
+
+@pytest.mark.parametrize(
+    ("given", "message"),
+    [
+        ([[1, 2], [3, -1]], "board 2: weight 2 is -1: votes are whole numbers from 0"),
+        ([[1, 2], [3, 0.5]], "board 2: weight 2 is 0.5: votes are whole numbers from 0"),
+        ([[1, numpy.nan], [3, 0.5]], "board 1: weight 2 is nan: votes are whole numbers from 0"),
+        ([[1, 2], [2**48, 1]], "board 2: the total is 281474976710657: at most 281474976710656"),
+        ([[1, 2], [2**48 + 1, 0]], "board 2: the total is 281474976710657: at most 281474976710656"),
+        ([[1] * 33], "board 1: 33 weights: a board has at most 32 chairs"),
+    ],
+)
+def test_arrays_that_are_refused(given: Any, message: str) -> None:
+    # Catches: a check of a whole array that lets pass what the check of a row doesn't.
+    with pytest.raises(Refused) as caught:
+        indices_of_many(numpy.array(given), ["half"])
+    assert str(caught.value) == message and caught.value.board == int(message[6]) - 1
+
+
+def test_arrays_of_wrong_types() -> None:
+    for given in (numpy.ones((2, 2), bool), numpy.ones((2, 2, 2), int), numpy.ones(2, int), numpy.array([["5"]])):
+        with pytest.raises(TypeError, match="^board 1: "):
+            indices_of_many(given, ["half"])
+    with pytest.raises(TypeError, match="^board 1: weight 2 is None"):
+        indices_of_many(numpy.ma.masked_array([[1, 2]], [[0, 1]]), ["half"])
+    for totals, message in (
+        (numpy.array([3, 2]), "^board 2: the total is 2: at least the sum of the weights, 3$"),
+        (numpy.array([3, 2**48 + 1]), "^board 2: the total is 281474976710657: at most 281474976710656$"),
+        (numpy.array([3, 3.5]), "^board 2: the total is 3.5: "),
+    ):
+        with pytest.raises(Refused, match=message):
+            indices_of_many(numpy.array([[1, 2], [1, 2]]), ["half"], totals=totals)
+
+
+def test_work_per_board() -> None:
+    # Catches: work of Python on each board of an array, beside its count.
+    boards = numpy.random.default_rng(1).integers(1, 400_000, (20_000, 3))
+    many = indices_of_many(boards, ["half"], processors=1)
+    for act in (lambda: indices_of_many(boards, ["half"], processors=1), lambda: many._floats("share")):
+        assert calls_in(act) < 500
 
 
 def calls_in(act: Callable[[], object]) -> int:

@@ -8,7 +8,7 @@ from typing import Any
 
 import pytest
 
-from voting_board import MAJORITIES, Majority, ManyIndices, indices, indices_of_all, indices_of_many
+from voting_board import MAJORITIES, Majority, ManyIndices, Refused, indices, indices_of_all, indices_of_many
 from voting_board.many import Job
 from voting_board.results import INDEX_NAMES
 
@@ -55,8 +55,11 @@ def test_indexing() -> None:
     assert many[3]["half"].chairs[3].share == 1 and many[-1] == many[3]
     assert [list(it) for it in many] == [["half", "85"]] * 4
     for at in (4, -5):
-        with pytest.raises(IndexError):
+        with pytest.raises(IndexError, match=f"^no board {at}: there are 4, counted from 0$"):
             many[at]
+    for wrong in ("half", slice(0, 1), 1.0, None):
+        with pytest.raises(TypeError, match="^the board is .*: a whole number; arrays such as many.share take slices"):
+            many[wrong]  # type: ignore[index]
     with pytest.raises(KeyError):
         many[0]["70"]
 
@@ -89,6 +92,48 @@ def test_arguments() -> None:
 def test_named_rows() -> None:
     many = indices_of_many([{"A": 50, "B": 49}, [1]], ["half"])
     assert (many[0]["half"].names, many[1]["half"].names) == (("A", "B"), (None,))
+
+
+def test_names_of_each_board() -> None:
+    many = indices_of_many([{"A": 50, "B": 49}, [1]], ["half"])
+    assert many.names == ({1: "A", 2: "B"}, {}) and many.labels is None
+    assert indices_of_many(ROWS, ["half"]).names == ({},) * 4
+
+
+def test_refused_board() -> None:
+    # Catches: a board that is named in words alone, to which the caller of a part can't add its beginning.
+    for rows in ([[1], [], [2, -5]], iter([[1], [2], [0.5]]), [[1], [2], [2**48, 1]]):
+        with pytest.raises(Refused, match="^board 3: ") as caught:
+            indices_of_many(rows, ["half"])
+        again = pickle.loads(pickle.dumps(caught.value))
+        assert caught.value.board == again.board == 2 and again.row is None
+    with pytest.raises(Refused) as caught:
+        indices_of_many([[1], [2, 3]], ["half"], totals=[1, 4])
+    assert caught.value.board == 1
+    with pytest.raises(Refused) as caught:
+        indices([-1], "half")
+    assert caught.value.board is None
+
+
+def test_shown() -> None:
+    # Catches: seven arrays in place of a line, and a table of all boards in a notebook.
+    assert repr(indices_of_many(ROWS, ["half", "85"])) == "ManyIndices(boards=4, chairs=4, majorities=half, 85)"
+    assert repr(indices_of_many([], [])) == "ManyIndices(boards=0, chairs=0, majorities=None)"
+    shown = indices_of_many([{"A": 3, "<B>": 1}], ["half"])._repr_html_()
+    assert "<th>board</th><th>majority</th><th>quota</th><th>total</th><th>1</th><th>2</th>" in shown
+    assert "<td>0</td><td>half</td><td>3</td><td>4</td><td>1.000000</td><td>0.000000</td>" in shown
+    many = indices_of_many([[0]] * 11, ["half", "85"])._repr_html_()
+    assert (many.count("<tr>"), many.count("<td>-</td>"), many.count("1 more boards")) == (21, 20, 1)
+
+
+def test_parts() -> None:
+    # Catches: a part that begins or ends at a wrong board, for parts of all sizes.
+    for width, boards in ((1, 5000), (5, 3000), (14, 600), (20, 120), (26, 40)):
+        rows = [[at + chair for chair in range(width)] for at in range(boards)]
+        for processors in (1, 3):
+            many = indices_of_many(rows, ["85"], processors=processors)
+            some = {0, 1, boards - 1, *range(0, boards, 37)}
+            assert all(many[at]["85"] == indices(rows[at], "85") for at in some)
 
 
 def test_pickle() -> None:

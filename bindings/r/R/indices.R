@@ -55,11 +55,11 @@ indices_of_weights <- function(weights, number, total) {
   counted(.Call(C_weights, numbers, total_of(total, numbers), number, names_by_chair(names(weights))))
 }
 
-# The names of chairs 1, 2 and so on, as names of all chairs; NULL if none has one.
-names_by_chair <- function(names) {
+# The names of chairs 1, 2 and so on, as names of some chairs; NULL if none has one.
+names_by_chair <- function(names, chairs = CHAIRS) {
   if (is.null(names) || all(is.na(names) | names == "")) return()
   names[names == ""] <- NA
-  c(enc2utf8(names), rep(NA_character_, CHAIRS - length(names)))
+  c(enc2utf8(names), rep(NA_character_, max(0, chairs - length(names))))
 }
 
 indices_of_members <- function(table, number, open_chairs) {
@@ -85,30 +85,75 @@ open_of <- function(open_chairs) {
 board_indices_of_many <- function(rows, majorities = c("half", "70", "85", "quorum"), totals = NULL,
                                   processors = NULL) {
   boards <- boards_of(rows)
-  weights <- lapply(seq_along(boards), function(at) weights_of(boards[[at]], paste0("board ", at, ": ")))
-  sums <- totals_of(totals, weights)
+  boards$total <- totals_of(totals, boards)
   if (!is.character(majorities) || is.object(majorities)) {
     wrong_type("the majorities are", majorities, ALLOWED[["majority"]])
   }
   numbers <- vapply(majorities, majority_number, 0L, USE.NAMES = FALSE)
-  many <- .Call(C_many, weights, sums, numbers, threads_of(processors))
-  names(weights) <- names(boards)
-  arrays_of(many, weights, sums, majorities)
+  many <- .Call(C_many, boards$weights, boards$chairs, boards$total, numbers, threads_of(processors))
+  arrays_of(many, boards, majorities)
 }
 
-# Boards as a list of weights: the rows of a matrix or of a data frame of numbers, or a list of vectors.
+# Boards that are checked: the number of chairs of each, their weights by board and chair, NA where a board has no such
+# chair, and what it casts; the labels of boards; and the names of chairs, by chair or by board and chair. They are the
+# rows of a matrix or of a data frame of numbers, or a list of vectors.
 boards_of <- function(rows) {
   if (is.data.frame(rows)) rows <- as.matrix(rows)
-  if (is.matrix(rows)) {
-    if (is.object(rows)) wrong_type("the boards are", rows, "a matrix of numbers, a row each, or a list of vectors")
-    names <- rownames(rows)
-    columns <- colnames(rows)
-    rows <- lapply(seq_len(nrow(rows)), function(at) structure(rows[at, ], names = columns))
-    names(rows) <- names
-    return(rows)
+  if (!(is.matrix(rows) || is.list(rows)) || (is.matrix(rows) && is.object(rows))) {
+    wrong_type("the boards are", rows, "a matrix of numbers, a row each, or a list of vectors")
   }
-  if (!is.list(rows)) wrong_type("the boards are", rows, "a matrix of numbers, a row each, or a list of vectors")
-  rows
+  boards <- if (is.matrix(rows)) boards_in_matrix(rows) else boards_in_list(rows)
+  boards$cast <- unname(rowSums(boards$weights, na.rm = TRUE))
+  boards
+}
+
+boards_in_matrix <- function(rows) {
+  many <- nrow(rows)
+  labels <- rownames(rows)
+  names <- colnames(rows)
+  is_board <- is.numeric(rows) && ncol(rows) <= CHAIRS
+  bad <- rep(!is_board, many)
+  # A column at a time, since the whole matrix may be a large part of the memory.
+  if (is_board) for (chair in seq_len(ncol(rows))) bad <- bad | !is_whole(rows[, chair], 0, TOTAL_VOTES)
+  check_boards(bad, labels, function(at) rows[at, ])
+  chairs <- rep(ncol(rows), many)
+  rows <- rows[, seq_len(max(0L, chairs)), drop = FALSE]
+  storage.mode(rows) <- "double"
+  list(chairs = chairs, weights = unname(rows), labels = labels, names = if (many > 0) names_by_chair(names, 0))
+}
+
+boards_in_list <- function(rows) {
+  chairs <- lengths(rows, use.names = FALSE)
+  bad <- !vapply(rows, is_numbers, TRUE, USE.NAMES = FALSE) | chairs > CHAIRS
+  votes <- as.double(unlist(rows[!bad], use.names = FALSE))
+  board <- rep(which(!bad), chairs[!bad])
+  bad[board[!is_whole(votes, 0, TOTAL_VOTES)]] <- TRUE
+  check_boards(bad, names(rows), function(at) rows[[at]])
+  weights <- matrix(NA_real_, length(rows), max(0L, chairs))
+  place <- cbind(board, sequence(chairs))
+  weights[place] <- votes
+  is_named <- !vapply(rows, function(it) is.null(names(it)), TRUE, USE.NAMES = FALSE)
+  names <- if (any(is_named)) array(NA_character_, dim(weights))
+  if (any(is_named)) {
+    given <- unlist(lapply(rows[is_named], names), use.names = FALSE)
+    given[given == ""] <- NA
+    names[place[rep(is_named, chairs), , drop = FALSE]] <- enc2utf8(given)
+  }
+  list(chairs = chairs, weights = weights, labels = names(rows), names = if (!all(is.na(names))) names)
+}
+
+# Refuses the first bad board with its place. `row` gives the weights of a board.
+check_boards <- function(bad, labels, row) {
+  at <- first(bad)
+  if (!is.null(at)) of_board(at, labels, weights_of(row(at), paste0("board ", at, ": ")))
+}
+
+# A call that may refuse the board of a place: the condition has its label, or its place if it has none.
+of_board <- function(at, labels, call) {
+  tryCatch(call, board_refused = function(why) {
+    why$board <- if (is.null(labels)) at else labels[at]
+    stop(why)
+  })
 }
 
 # How many threads count: 0 for one on each processor.
@@ -120,52 +165,58 @@ threads_of <- function(processors) {
   threads
 }
 
-totals_of <- function(totals, weights) {
+# The totals of boards, checked: what they cast unless given.
+totals_of <- function(totals, boards) {
+  many <- length(boards$cast)
   if (!is.null(totals)) {
     totals <- numbers_of(totals, function(at) paste0("board ", at, ": the total is"), ALLOWED[["total"]])
-    if (length(totals) != length(weights)) {
-      type_error("there are ", length(totals), " totals, and ", length(weights), " boards")
-    }
+    if (length(totals) != many) type_error("there are ", length(totals), " totals, and ", many, " boards")
   }
-  vapply(seq_along(weights), function(at) total_of(totals[at], weights[[at]], paste0("board ", at, ": ")), 0)
+  wholes <- if (is.null(totals)) boards$cast else totals
+  at <- first(!is_whole(wholes, 0, TOTAL_VOTES) | wholes < boards$cast)
+  if (!is.null(at)) of_board(at, boards$labels, total_of(totals[at], boards$cast[at], paste0("board ", at, ": ")))
+  wholes
 }
 
 # The results of many boards as arrays by board, majority and chair.
-arrays_of <- function(many, weights, totals, majorities) {
-  boards <- length(weights)
-  kinds <- length(majorities)
-  chairs <- lengths(weights)
-  most <- max(0L, chairs)
-  by_majority <- list(names(weights), majorities)
-  for (name in c("quota", "least_size", "omega")) many[[name]] <- array(many[[name]], c(boards, kinds), by_majority)
+arrays_of <- function(many, boards, majorities) {
+  chairs <- boards$chairs
+  sizes <- c(length(chairs), length(majorities), ncol(boards$weights))
+  by_majority <- list(boards$labels, majorities)
+  for (name in c("quota", "least_size", "omega")) many[[name]] <- array(many[[name]], sizes[1:2], by_majority)
   by_chair <- c(by_majority, list(NULL))
-  swings <- many$swings <- array(many$swings, c(boards, kinds, most), by_chair)
-  coalitions <- 2^unname(chairs)
-  cast <- vapply(weights, sum, 0, USE.NAMES = FALSE)
-  weight <- t(vapply(weights, function(it) c(it, rep(NA_real_, most - length(it))), numeric(most)))
-  weight <- array(if (most == 1) t(weight) else weight, c(boards, most), list(names(weights), NULL))
+  swings <- many$swings <- array(many$swings, sizes, by_chair)
+  coalitions <- 2^chairs
   all <- rowSums(swings, na.rm = TRUE, dims = 2)
-  shares <- lapply(divisors(rep(coalitions, kinds), many$omega, all), function(by) {
-    array(swings / ifelse(c(by) == 0, NA, c(by)), dim(swings), by_chair)
+  shares <- lapply(divisors(rep(coalitions, sizes[2]), many$omega, all), function(by) {
+    by <- c(by)
+    by[by == 0] <- NA
+    swings / by
   })
-  head <- list(majorities = majorities, chairs = unname(chairs), cast = cast, total = totals, coalitions = coalitions)
-  rest <- list(act = many$omega / coalitions, weights = weight)
-  structure(c(head, many, rest, shares), class = "board_indices_of_many")
+  weights <- array(boards$weights, sizes[c(1, 3)], list(boards$labels, NULL))
+  head <- list(majorities = majorities, chairs = chairs, cast = boards$cast, total = boards$total,
+    coalitions = coalitions)
+  rest <- list(act = many$omega / coalitions, weights = weights)
+  names <- if (!is.null(boards$names)) list(names = boards$names)
+  structure(c(head, many, rest, shares, names), class = "board_indices_of_many")
 }
 
 as.data.frame.board_indices_of_many <- function(x, row.names = NULL, optional = FALSE, ..., fractions = "double") {
   no_more(...)
   exact <- is_exact(fractions)
-  at <- arrayInd(which(!is.na(x$swings)), dim(x$swings))
-  at <- at[order(at[, 1], at[, 2], at[, 3]), , drop = FALSE]
+  # Chairs change first and boards last.
+  at <- arrayInd(which(aperm(!is.na(x$swings))), rev(dim(x$swings)))[, 3:1, drop = FALSE]
   board <- at[, 1:2, drop = FALSE]
-  names <- rownames(x$omega)
+  chair <- at[, c(1, 3), drop = FALSE]
+  labels <- rownames(x$omega)
   omega <- x$omega[board]
   swings <- x$swings[at]
-  frame <- data.frame(
-    board = if (is.null(names)) at[, 1] else names[at[, 1]], majority = x$majorities[at[, 2]], omega = omega,
-    chair = at[, 3], weight = x$weights[at[, c(1, 3), drop = FALSE]], swings = swings
+  frame <- list(
+    board = if (is.null(labels)) at[, 1] else labels[at[, 1]], majority = x$majorities[at[, 2]], omega = omega,
+    chair = at[, 3]
   )
+  if (!is.null(x$names)) frame$name <- if (is.matrix(x$names)) x$names[chair] else x$names[at[, 3]]
+  frame <- data.frame(frame, weight = x$weights[chair], swings = swings)
   all <- rowSums(x$swings, na.rm = TRUE, dims = 2)[board]
   cbind(frame, fractions_of(swings, x$coalitions[at[, 1]], omega, all, exact))
 }

@@ -1,10 +1,10 @@
 # Refusals, wrong types, and the checks of values.
 
 # A refusal as a condition. `name` is one of REFUSALS, and the message is made of the other texts.
-refusal <- function(name, ..., command = NULL, record = NULL, row = NULL) {
+refusal <- function(name, ..., command = NULL, record = NULL, row = NULL, board = NULL) {
   fields <- list(
     message = paste0(...), call = NULL, number = match(name, names(REFUSALS)), name = name,
-    command = command, record = record, row = row
+    command = command, record = record, row = row, board = board
   )
   structure(class = c("board_refused", "error", "condition"), fields)
 }

@@ -13,6 +13,7 @@ A value or a command that is refused raises a condition of the classes \code{"bo
 \item{command}{the text of the refused record, or \code{NULL}}
 \item{record}{its number in a list of records or in a script, or \code{NULL}}
 \item{row}{the row of a table, or \code{NULL}}
+\item{board}{of many boards the name of the board's row or vector, or its place if it has none, or \code{NULL}}
 }
 On a board: \code{BadSheet} for weights, totals, chairs and votes, \code{BadRecord} for a majority that isn't known.
 Of a register: \code{BadChair}, \code{BadMember} for a code, \code{VotesTooLarge}, \code{BadRecord} for other votes,

@@ -236,28 +236,37 @@ static SEXP r_members(SEXP votes, SEXP chairs, SEXP suspended, SEXP open, SEXP m
     return answer(refusal, &one, &all, number, names);
 }
 
-/* Checks many boards, and returns the most chairs of one. */
-static R_xlen_t most_chairs(SEXP boards, SEXP majorities) {
-    R_xlen_t most = 0;
-    check_vector(majorities, INTSXP, -1);
-    for (R_xlen_t at = 0; at < XLENGTH(majorities); at++)
-        if (INTEGER(majorities)[at] < 0 || INTEGER(majorities)[at] >= MAJORITIES) error("no majority has this number");
-    for (R_xlen_t board = 0; board < XLENGTH(boards); board++) {
-        check_vector(VECTOR_ELT(boards, board), REALSXP, -1);
-        if (XLENGTH(VECTOR_ELT(boards, board)) > most) most = XLENGTH(VECTOR_ELT(boards, board));
-    }
-    if (most > BOARD_CHAIRS) error("too many weights");
-    return most;
-}
-
-/* Many boards: their weights and totals, some majorities, and columns for what is found: by board and majority the
- * quota, the least size and omega; the swings by board, majority and chair. */
+/* Many boards: their weights by board and chair, the numbers of their chairs, their totals, some majorities, and columns
+ * for what is found: by board and majority the quota, the least size and omega; the swings by board, majority and chair.
+ */
 struct many {
-    SEXP boards, majorities;
-    const double *totals;
+    SEXP majorities;
+    const double *weights, *totals;
+    const int *own_chairs;
     R_xlen_t len, kinds, chairs;
     double *columns[MANY_COLUMNS];
 };
+
+/* Checks the boards and majorities of a call. */
+static struct many many_of(SEXP weights, SEXP chairs, SEXP totals, SEXP majorities) {
+    R_xlen_t len = XLENGTH(chairs), most = len ? XLENGTH(weights) / len : 0;
+    check_vector(chairs, INTSXP, len);
+    check_vector(weights, REALSXP, len * most);
+    check_vector(totals, REALSXP, len);
+    check_vector(majorities, INTSXP, -1);
+    for (R_xlen_t at = 0; at < XLENGTH(majorities); at++)
+        if (INTEGER(majorities)[at] < 0 || INTEGER(majorities)[at] >= MAJORITIES) error("no majority has this number");
+    for (R_xlen_t at = 0; at < len; at++)
+        if (INTEGER(chairs)[at] < 0 || INTEGER(chairs)[at] > most) error("a board has no such chairs");
+    if (most > BOARD_CHAIRS) error("too many weights");
+    return (struct many){.majorities = majorities,
+                         .weights = REAL(weights),
+                         .totals = REAL(totals),
+                         .own_chairs = INTEGER(chairs),
+                         .len = len,
+                         .kinds = XLENGTH(majorities),
+                         .chairs = most};
+}
 
 /* Makes the list of the columns; the caller protects it. */
 static SEXP new_columns(struct many *many) {
@@ -273,7 +282,7 @@ static SEXP new_columns(struct many *many) {
 /* Puts the counts of a board into the columns. The swings are NA for chairs that it has not. */
 static void put_counts(const struct many *many, R_xlen_t board, struct board_all_counts *all) {
     double *const *to = many->columns;
-    R_xlen_t chairs = XLENGTH(VECTOR_ELT(many->boards, board));
+    R_xlen_t chairs = many->own_chairs[board];
     for (R_xlen_t kind = 0; kind < many->kinds; kind++) {
         const struct board_counts *found = by_majority(all, (uint32_t)INTEGER(many->majorities)[kind]);
         R_xlen_t at = board + many->len * kind;
@@ -299,8 +308,10 @@ static void count_part(const struct many *many, R_xlen_t first, R_xlen_t len, st
     uint64_t sheets[PART][BOARD_SHEET_WORDS];
     static struct counted found[PART];
     for (R_xlen_t at = 0; at < len; at++) {
-        SEXP weights = VECTOR_ELT(many->boards, first + at);
-        put_sheet(sheets[at], REAL(weights), XLENGTH(weights), many->totals[first + at]);
+        double weights[BOARD_CHAIRS];
+        for (R_xlen_t chair = 0; chair < many->own_chairs[first + at]; chair++)
+            weights[chair] = many->weights[first + at + many->len * chair];
+        put_sheet(sheets[at], weights, many->own_chairs[first + at], many->totals[first + at]);
     }
     struct counting counting = {(const uint64_t(*)[BOARD_SHEET_WORDS])sheets, found, (size_t)len,
                                 asked_of(many->majorities)};
@@ -314,13 +325,8 @@ static void count_part(const struct many *many, R_xlen_t first, R_xlen_t len, st
 
 /* Counts many boards by some majorities, on some threads at a time, or on one for each processor if `processors` is 0.
  * R sees an interrupt after each PART of boards. */
-static SEXP r_many(SEXP boards, SEXP totals, SEXP majorities, SEXP processors) {
-    struct many many = {.boards = boards, .majorities = majorities, .len = XLENGTH(boards)};
-    check_vector(boards, VECSXP, many.len);
-    check_vector(totals, REALSXP, many.len);
-    many.totals = REAL(totals);
-    many.chairs = most_chairs(boards, majorities);
-    many.kinds = XLENGTH(majorities);
+static SEXP r_many(SEXP weights, SEXP chairs, SEXP totals, SEXP majorities, SEXP processors) {
+    struct many many = many_of(weights, chairs, totals, majorities);
     uint32_t asked = one_number(processors);
     int threads = asked == 0 ? most_threads() : asked < MOST_THREADS ? (int)asked : MOST_THREADS;
     if (threads > many.len) threads = many.len < 1 ? 1 : (int)many.len;
@@ -949,7 +955,7 @@ static SEXP r_processor(void) {
 #define CALL(name, arguments) \
     { #name, (DL_FUNC)&r_##name, arguments }
 static const R_CallMethodDef CALLS[] = {
-    CALL(indices, 3),     CALL(weights, 4),   CALL(members, 6),  CALL(many, 4),        CALL(is_there, 1),
+    CALL(indices, 3),     CALL(weights, 4),   CALL(members, 6),  CALL(many, 5),        CALL(is_there, 1),
     CALL(start, 3),       CALL(apply, 6),     CALL(publish, 1),  CALL(counts, 4),      CALL(state, 1),
     CALL(sheet, 1),       CALL(rows, 1),      CALL(entries, 1),  CALL(commands, 1),    CALL(copy, 2),
     CALL(undo, 3),        CALL(submit, 2),    CALL(check, 2),    CALL(from_script, 2), CALL(replay, 3),

@@ -1,32 +1,35 @@
 /** Single moves: each member is moved to each of some chairs where it isn't, and moved back. */
 import type { Register } from "../../../bindings/javascript/src/register";
-import { compared, difference, ZERO, type Ratio } from "../study/fractions";
+import { apart, compared, difference, reduced, ZERO, type Quotient, type Ratio } from "../study/fractions";
 import type { Extreme, Orders, Progress, Tried } from "./orders";
-import { measureOf, readingsOf } from "./reading";
+import { measureIn } from "./reading";
 
 type Values = ReadonlyMap<number, Ratio | null>;
 
 /** The greatest gain of any chair, or with -1 the greatest loss, and all chairs that have it. */
-function extreme(gains: ReadonlyMap<number, Ratio>, sign: 1 | -1): Extreme | null {
-  let found: { chairs: number[]; gain: Ratio } | null = null;
+function extreme(gains: ReadonlyMap<number, Quotient>, sign: 1 | -1): Extreme | null {
+  let found: { chairs: number[]; gain: Quotient } | null = null;
   for (const [chair, gain] of gains) {
     if (gain.numerator === 0n || gain.numerator > 0n !== sign > 0) continue;
     const order = found ? sign * compared(gain, found.gain) : 1;
     if (order > 0) found = { chairs: [chair], gain };
     else if (order === 0) found?.chairs.push(chair);
   }
-  return found;
+  return found && { ...found, gain: kept(found.gain) };
 }
+
+const kept = ({ numerator, denominator }: Quotient): Ratio => reduced(numerator, denominator);
 
 /** What a move gave; null where it or the board before it has no value, since no coalition wins. */
 function triedOf(code: string, chair: number, before: Values, after: Values): Tried | null {
-  const gains = new Map<number, Ratio>();
+  const gains = new Map<number, Quotient>();
   for (const [at, value] of after) {
-    const gain = difference(value, before.get(at) ?? null);
-    if (gain) gains.set(at, gain);
+    const own = before.get(at);
+    if (value && own) gains.set(at, apart(value, own));
   }
   const [value, gain] = [after.get(chair), gains.get(chair)];
-  return value && gain ? { code, chair, value, gain, most: extreme(gains, 1), least: extreme(gains, -1) } : null;
+  if (!value || !gain) return null;
+  return { code, chair, value, gain: kept(gain), most: extreme(gains, 1), least: extreme(gains, -1) };
 }
 
 /** The moves of an order on a register, which it changes: each member, in each chair in order. */
@@ -36,8 +39,8 @@ export async function triedMoves(
   progress: Progress,
 ): Promise<Tried[]> {
   const values = (): Values => {
-    const found = readingsOf(register, [majority]).flatMap((it) => it.chairs);
-    return new Map(found.map((it) => [it.chair, measureOf(it, measure)]));
+    const found = register.indices(majority);
+    return new Map(found.chairs.map((it) => [it.chair, measureIn(found, it, measure)]));
   };
   const { members } = register;
   const before = values();

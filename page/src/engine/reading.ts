@@ -1,5 +1,5 @@
 /** Readings of a register: the counts by one majority, and the power of each open chair, as exact fractions. */
-import type { Indices } from "../../../bindings/javascript/src/indices";
+import type { Chair, Indices } from "../../../bindings/javascript/src/indices";
 import type { Register } from "../../../bindings/javascript/src/register";
 import { exact, over, quotient, type Ratio } from "../study/fractions";
 import type { Majority, Measure } from "../study/words";
@@ -40,9 +40,9 @@ export function readings(list: readonly Reading[]): Readings {
   return new Map(list.map((it) => [it.majority, it]));
 }
 
-/** A chair with the ratio of its power to its votes, where these votes are cast in all. */
-export function withRatio(chair: Omit<ChairReading, "ratio">, cast: number): ChairReading {
-  return { ...chair, ratio: quotient(chair.share, over(chair.weight, cast)) };
+/** The ratio of a chair's power to its votes, where these votes are cast in all. */
+function ratioOf(share: Ratio | null, weight: number, cast: number): Ratio | null {
+  return quotient(share, over(weight, cast));
 }
 
 /** The counts of the package, with fractions of any size. */
@@ -57,7 +57,7 @@ export function readingOf(indices: Indices): Reading {
     winning: omega,
     coalitions,
     act: exact(act),
-    chairs: chairs.map(({ chair, weight, swings, banzhaf, share, prevent, initiate }) => withRatio({
+    chairs: chairs.map(({ chair, weight, swings, banzhaf, share, prevent, initiate }) => ({
       chair,
       weight,
       swings,
@@ -65,17 +65,110 @@ export function readingOf(indices: Indices): Reading {
       share: exact(share),
       prevent: exact(prevent),
       initiate: exact(initiate),
-    }, cast)),
+      ratio: ratioOf(exact(share), weight, cast),
+    })),
   };
+}
+
+/** One measure of a chair of the package's counts. */
+export function measureIn({ cast }: Indices, chair: Chair, measure: Measure): Ratio | null {
+  if (measure === "swings") return over(chair.swings, 1);
+  return measure === "ratio" ? ratioOf(exact(chair.share), chair.weight, cast) : exact(chair[measure]);
+}
+
+/** A chair whose fractions are made each time that one is asked for: of most chairs none is. */
+class ChairOf implements ChairReading {
+  readonly #board: ReadingOf;
+  readonly chair: number;
+  readonly weight: number;
+  readonly swings: number;
+
+  constructor(board: ReadingOf, chair: number, weight: number, swings: number) {
+    this.#board = board;
+    this.chair = chair;
+    this.weight = weight;
+    this.swings = swings;
+  }
+
+  get banzhaf(): Ratio | null {
+    return over(this.swings, this.#board.coalitions / 2);
+  }
+
+  get share(): Ratio | null {
+    return over(this.swings, this.#board.swings);
+  }
+
+  get prevent(): Ratio | null {
+    return over(this.swings, this.#board.winning);
+  }
+
+  get initiate(): Ratio | null {
+    return over(this.swings, this.#board.coalitions - this.#board.winning);
+  }
+
+  get ratio(): Ratio | null {
+    return ratioOf(this.share, this.weight, this.#board.cast);
+  }
+}
+
+/** A reading of whole numbers, whose chairs and fractions are made when they are asked for: a curve has many of which
+ * one chair is drawn. It doesn't go to or from a worker. */
+export class ReadingOf implements Reading {
+  /** For each chair its number, its weight and its swings. */
+  readonly #rows: Float64Array;
+
+  constructor(
+    readonly majority: Majority,
+    readonly quota: number,
+    readonly leastSize: number,
+    readonly cast: number,
+    readonly total: number,
+    readonly winning: number,
+    readonly coalitions: number,
+    rows: Float64Array,
+  ) {
+    this.#rows = rows;
+  }
+
+  #at(row: number): ChairOf {
+    const rows = this.#rows;
+    return new ChairOf(this, rows[row] ?? 0, rows[row + 1] ?? 0, rows[row + 2] ?? 0);
+  }
+
+  get act(): Ratio | null {
+    return over(this.winning, this.coalitions);
+  }
+
+  get chairs(): readonly ChairReading[] {
+    return Array.from({ length: this.#rows.length / 3 }, (_, at) => this.#at(3 * at));
+  }
+
+  /** The swings of all chairs. */
+  get swings(): number {
+    let all = 0;
+    for (let at = 2; at < this.#rows.length; at += 3) all += this.#rows[at] ?? 0;
+    return all;
+  }
+
+  /** The chair of a number, or undefined if it isn't open. */
+  chairOf(chair: number): ChairReading | undefined {
+    for (let at = 0; at < this.#rows.length; at += 3) if (this.#rows[at] === chair) return this.#at(at);
+    return undefined;
+  }
 }
 
 /** Counting by all majorities together is faster than counting this number of them one by one. */
 const MANY = 3;
 
+/** The counts of a register as it stands. */
+export function countsOf(register: Register, majorities: readonly Majority[]): Indices[] {
+  const all = majorities.length < MANY ? null : register.indicesOfAll();
+  return majorities.map((it) => all?.[it] ?? register.indices(it));
+}
+
 /** The readings of a register as it stands. */
 export function readingsOf(register: Register, majorities: readonly Majority[]): Reading[] {
-  const all = majorities.length < MANY ? null : register.indicesOfAll();
-  return majorities.map((it) => readingOf(all?.[it] ?? register.indices(it)));
+  return countsOf(register, majorities).map(readingOf);
 }
 
 /** A chair's share of the votes cast. */
@@ -90,5 +183,5 @@ export function measureOf(chair: ChairReading, measure: Measure): Ratio | null {
 
 /** A chair of a reading, or undefined if it isn't open. */
 export function chairIn(reading: Reading | undefined, chair: number): ChairReading | undefined {
-  return reading?.chairs.find((it) => it.chair === chair);
+  return reading instanceof ReadingOf ? reading.chairOf(chair) : reading?.chairs.find((it) => it.chair === chair);
 }

@@ -5,7 +5,7 @@ import { shareVotes } from "./amount";
 import { decimalRatio, nearest } from "../study/fractions";
 import type { Orders, PackedPoint, Progress, SweptPart } from "./orders";
 import { packed } from "./packed";
-import { readingsOf } from "./reading";
+import { countsOf } from "./reading";
 import type { SweepAsked } from "../study/study";
 import { BadSweep, give, targetOf } from "./target";
 
@@ -55,7 +55,7 @@ export async function sweptPart(
     const votes = votesAt(value, asked.unit, rest);
     const given = commands(votes);
     give(register, given);
-    points.push({ value, votes, commands: given, readings: packed(readingsOf(register, majorities)) });
+    points.push({ value, votes, commands: given, readings: packed(countsOf(register, majorities)) });
   }
   return { chair, rest, points };
 }

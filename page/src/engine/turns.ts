@@ -1,7 +1,8 @@
 /** Statements on a chair, and the votes at which they begin or end to hold: found by bisection, each step counted. */
 import type { Register } from "../../../bindings/javascript/src/register";
 import type { Orders, Progress, Question, Statement, Turn, Turns } from "./orders";
-import { chairIn, measureOf, readingsOf, type Reading } from "./reading";
+import { packed, unpacked } from "./packed";
+import { chairIn, countsOf, measureOf, type Reading } from "./reading";
 import { give, targetOf, type Target } from "./target";
 import type { Majority } from "../study/words";
 
@@ -32,7 +33,7 @@ function reader(register: Register, target: Target): Read {
     const key = `${majority} ${votes}`;
     if (!read.has(key)) {
       give(register, target.commands(votes));
-      read.set(key, readingsOf(register, [majority])[0]);
+      read.set(key, unpacked(packed(countsOf(register, [majority])))[0]);
     }
     return read.get(key);
   };

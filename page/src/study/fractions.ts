@@ -1,12 +1,15 @@
 /** Exact fractions, and decimals of them: each is rounded once, half to even, in whole-number arithmetic. */
-import type { Fraction } from "../../../bindings/javascript/src/fraction";
+import { fraction, type Fraction } from "../../../bindings/javascript/src/fraction";
 
-/** A fraction in lowest terms of any size: the difference of two of the package's may be beyond its numbers. Its
- * denominator is above 0. Only this module makes one. */
-export interface Ratio {
+/** A numerator over a denominator above 0, of any size, which may have a common divisor. */
+export interface Quotient {
   readonly numerator: bigint;
   readonly denominator: bigint;
 }
+
+/** A fraction in lowest terms: the difference of two of the package's may be beyond its numbers. Only this module makes
+ * one. */
+export interface Ratio extends Quotient {}
 
 export const ZERO: Ratio = { numerator: 0n, denominator: 1n };
 
@@ -17,9 +20,9 @@ export function reduced(numerator: bigint, denominator: bigint): Ratio {
   return { numerator: numerator / one, denominator: denominator / one };
 }
 
-/** The fraction in lowest terms, or null if the denominator is 0. */
-export function over(numerator: number | bigint, denominator: number | bigint): Ratio | null {
-  return BigInt(denominator) === 0n ? null : reduced(BigInt(numerator), BigInt(denominator));
+/** The fraction in lowest terms of whole numbers of at most 2^53, or null if the denominator is 0. */
+export function over(numerator: number, denominator: number): Ratio | null {
+  return exact(fraction(numerator, denominator));
 }
 
 /** A fraction of the package, which is in lowest terms, or null. */
@@ -32,11 +35,17 @@ export function fractionText(ratio: Ratio | null): string {
   return ratio === null ? "-" : `${ratio.numerator}/${ratio.denominator}`;
 }
 
+/** The difference from `before` to `after`, which isn't reduced: most are compared and dropped. */
+export function apart(after: Quotient, before: Quotient): Quotient {
+  const numerator = after.numerator * before.denominator - before.numerator * after.denominator;
+  return { numerator, denominator: after.denominator * before.denominator };
+}
+
 /** The difference from `before` to `after`, or null if one is missing. */
 export function difference(after: Ratio | null, before: Ratio | null): Ratio | null {
   if (after === null || before === null) return null;
-  const numerator = after.numerator * before.denominator - before.numerator * after.denominator;
-  return reduced(numerator, after.denominator * before.denominator);
+  const { numerator, denominator } = apart(after, before);
+  return reduced(numerator, denominator);
 }
 
 /** The sum of fractions. */
@@ -54,7 +63,7 @@ export function quotient(one: Ratio | null | undefined, other: Ratio | null | un
 }
 
 /** Less than 0, 0 or more: as `left` is less than, equal to or more than `right`. */
-export function compared(left: Ratio, right: Ratio): number {
+export function compared(left: Quotient, right: Quotient): number {
   const [here, there] = [left.numerator * right.denominator, right.numerator * left.denominator];
   return here < there ? -1 : here > there ? 1 : 0;
 }

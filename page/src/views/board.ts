@@ -43,7 +43,7 @@ function actText({ act }: Reading, digits: number): string {
 /** A small chance as one in n. */
 function oneIn({ act }: Reading): string {
   if (!act || act.numerator === 0n || act.numerator * 10n > act.denominator) return "";
-  const many = over(act.denominator, act.numerator);
+  const many = over(Number(act.denominator), Number(act.numerator));
   return many ? `1 in ${grouped(nearest(many))}` : "";
 }
 

@@ -18,6 +18,7 @@ class Refused(ValueError):
     command: the record that was refused, such as "move,AAA,3", or None
     record: the number of that record in the given text or list, from 1, or None
     row: the number of the row of a table, from 1, or None
+    board: of many boards, the label of the board's row in the index of a table of pandas, or its place from 0; or None
     """
 
     def __init__(
@@ -27,6 +28,7 @@ class Refused(ValueError):
         command: Optional[str] = None,
         record: Optional[int] = None,
         row: Optional[int] = None,
+        board: object = None,
     ) -> None:
         super().__init__(message)
         self.number = number
@@ -34,9 +36,10 @@ class Refused(ValueError):
         self.command = command
         self.record = record
         self.row = row
+        self.board = board
 
     def __reduce__(self) -> tuple[type[Refused], tuple[object, ...]]:
-        return type(self), (self.number, str(self), self.command, self.record, self.row)
+        return type(self), (self.number, str(self), self.command, self.record, self.row, self.board)
 
 
 def name_of(number: int) -> str:

@@ -165,3 +165,18 @@ test_that("many boards have the same counts in the same order on any number of t
     }
   }
 })
+
+test_that("many boards keep the names of chairs and the labels of boards", {
+  # Catches: names that are taken and lost, so that a panel can't be joined.
+  panel <- data.frame(North = c(50, 1), South = c(49, 2), row.names = c("1991", "2026"))
+  for (rows in list(panel, as.matrix(panel))) {
+    frame <- as.data.frame(board_indices_of_many(rows, c("half", "85")))
+    expect_identical(frame$board, rep(c("1991", "2026"), each = 4))
+    expect_identical(frame$name, rep(c("North", "South"), 4))
+    expect_identical(names(frame)[1:6], c("board", "majority", "omega", "chair", "name", "weight"))
+  }
+  many <- board_indices_of_many(list(c(A = 1, 2), numeric(0), c(5, B = 3, C = 0), 7), "half")
+  expect_identical(as.data.frame(many)$name, c("A", NA, NA, "B", "C", NA))
+  expect_null(board_indices_of_many(list(1, 2))$names)
+  expect_null(as.data.frame(board_indices_of_many(rbind(c(1, 2)), "half"))$name)
+})

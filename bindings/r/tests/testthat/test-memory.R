@@ -61,7 +61,8 @@ test_that("calls hold what they allocate while R collects at each allocation", {
   board_publish(r)
   calls <- list(
     weights = list(c(2, 1), 3, 4L, names), members = list(c(2, 1), c(1, 2), c(FALSE, TRUE), 4, 4L, names),
-    many = list(list(c(2, 1), 5), c(3, 5), 0:3, 2), one_of_many = list(list(c(2, 1), 5), c(3, 5), 2L, 2),
+    many = list(rbind(c(2, 1), c(5, NA)), 2:1, c(3, 5), 0:3, 2),
+    one_of_many = list(rbind(c(2, 1), c(5, NA)), 2:1, c(3, 5), 2L, 2),
     counts = list(handle, 0L, names, TRUE), rows = list(handle), entries = list(handle), commands = list(handle),
     sheet = list(handle), state = list(handle), check = list(handle, charToRaw("open,5\nopen,5")),
     submit = list(handle, charToRaw("open,5\nopen,5")),

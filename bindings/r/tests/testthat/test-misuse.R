@@ -66,6 +66,21 @@ test_that("many boards are refused with the board's place", {
   wrong(board_indices_of_many(list(1, list(2))), paste0("board 2: the weights are list(2) (list)", votes_are))
   wrong(board_indices_of_many(list(1, 2), totals = 5), "there are 1 totals, and 2 boards")
   wrong(board_indices_of_many(list(1), totals = "5"), paste0("board 1: the total is '5' (character)", votes_are))
+  # Catches: a check of a whole matrix that lets pass what that of a board doesn't, and a board named in words alone.
+  for (bad in list(-1, 1.5, NA, NaN, Inf, 2^48 + 1)) {
+    rows <- rbind(a = c(1, 1), b = c(1, bad), c = c(bad, 1))
+    alone <- tryCatch(board_indices(rows[2, ], "half"), board_refused = conditionMessage)
+    why <- refused(board_indices_of_many(rows), "BadSheet", paste0("board 2: ", alone))
+    expect_identical(why$board, "b")
+    why <- refused(board_indices_of_many(list(1, c(1, bad), bad)), "BadSheet", paste0("board 2: ", alone))
+    expect_identical(why$board, 2L)
+  }
+  refused(board_indices_of_many(rbind(1, 2^48, 2^48), totals = c(1, 2^48, 5)),
+    "BadSheet", "board 3: the total is 5: at least the sum of the weights, 281474976710656")
+  refused(board_indices_of_many(rbind(c(1, 1), c(2^48, 1))), "BadSheet",
+    "board 2: the total is 281474976710657: at most 281474976710656")
+  refused(board_indices_of_many(matrix(1, 2, 33)), "BadSheet", "board 1: 33 weights: a board has at most 32 chairs")
+  wrong(board_indices_of_many(matrix(TRUE, 2, 2)), paste0("board 1: weight 1 is TRUE (logical)", votes_are))
   wrong(board_indices_of_many(5), "the boards are 5 (numeric): a matrix of numbers, a row each, or a list of vectors")
   wrong(board_indices_of_many(list(1), 70), paste0("the majorities are 70 (numeric)", majorities_are))
   wrong(board_indices_of_many(list(1), processors = "2"), "processors is '2' (character): a whole number from 1")
@@ -187,6 +202,12 @@ test_that("C checks again what R has checked", {
   expect_error(call("state", 5), "not a register")
   expect_error(call("submit", handle_in(board_register(c(AAA = 1))), "open,1"), "wrong type")
   expect_error(call("start", c("AAAA"), 1, 10), "three characters")
-  expect_error(call("many", list(rep(1, 33)), 33, 0L, 1), "too many weights")
-  expect_error(call("many", list(1), 1, 0L, -1), "isn't whole")
+  expect_error(call("many", rep(1, 33), 33L, 33, 0L, 1), "too many weights")
+  expect_error(call("many", 1, 1L, 1, 0L, -1), "isn't whole")
+  expect_error(call("many", NA_real_, 1L, 1, 0L, 1), "isn't whole")
+  expect_error(call("many", c(1, 2), c(1L, 2L), c(1, 2), 0L, 1), "no such chairs")
+  for (chairs in list(-1L, NA)) expect_error(call("many", 1, as.integer(chairs), 1, 0L, 1), "no such chairs")
+  expect_error(call("many", c(1, 2, 3), c(1L, 1L), c(1, 2), 0L, 1), "wrong type or length")
+  expect_error(call("many", 1:2, c(1L, 1L), c(1, 2), 0L, 1), "wrong type or length")
+  expect_error(call("many", 1, 1L, 1, 4L, 1), "no majority")
 })
