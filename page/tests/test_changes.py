@@ -163,11 +163,12 @@ def test_list_of_changes(page: Page, oracle: Oracle) -> None:
     # Catches: a change that is switched off and counts, or per cent of votes that an earlier change no longer gives.
     for act in [["votes", "XAA", "100000"], ["votes", "XAA", "+50%"]]:
         assert page.act(*act)
+    more = round(1.5 * next(it.votes for it in oracle.table.members if it.code == "XAA"))
     check_figures(page, oracle, ["votes,XAA,100000", "votes,XAA,150000"])
     assert page.act("switch", "0")
-    check_figures(page, oracle, ["votes,XAA,975824"])
+    check_figures(page, oracle, [f"votes,XAA,{more}"])
     assert page.act("switch", "0") and page.act("earlier", "1")
-    check_figures(page, oracle, ["votes,XAA,975824", "votes,XAA,100000"])
+    check_figures(page, oracle, [f"votes,XAA,{more}", "votes,XAA,100000"])
     page.click("#clear-changes")
     check_figures(page, oracle, [])
 

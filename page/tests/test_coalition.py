@@ -276,9 +276,10 @@ def test_example(page: Page, oracle: Oracle) -> None:
     assert found[:-2] == [list(it) for it in zip(*columns)]
     check = "{} the sum equals the counted number of winning coalitions: {:,}."
     assert page.texts("#size-checks li") == [check.format(WORDS[it.majority], it.winning) for it in readings]
-    assert not page.all(".alarm") and vetoes(page) == vetoes_of(readings) == [[] for _ in MAJORITIES]
-    # With more votes chair 1 has a veto at 85 per cent, and at all majorities with many more.
-    for votes, where in [("900000", ["85"]), ("5000000", MAJORITIES)]:
+    assert not page.all(".alarm") and vetoes(page) == vetoes_of(readings)
+    assert [at for at, it in zip(MAJORITIES, vetoes(page)) if it] == ["85"]
+    # With fewer votes chair 1 has no veto, and with many more it has one at all majorities.
+    for votes, where in [("650549", []), ("900000", ["85"]), ("5000000", MAJORITIES)]:
         assert page.act("votes", "XAA", votes)
         wanted = vetoes_of(oracle.output([f"votes,XAA,{votes}"], MAJORITIES).readings)
         assert vetoes(page) == wanted and [at for at, it in zip(MAJORITIES, wanted) if 1 in it] == where

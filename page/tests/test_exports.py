@@ -87,7 +87,7 @@ def test_svg(study: Page, oracle: Oracle, tab: str) -> None:
     picture = ElementTree.fromstring(content)
     chairs = [int(it.get("data-chair", "")) for it in picture.iter() if it.get("data-chair")]
     assert chairs == drawn_chairs(study) and len(chairs) == 24 and picture.tag == "{http://www.w3.org/2000/svg}svg"
-    check_provenance(content.decode(), study, oracle)
+    check_provenance(content.decode().partition("<!--")[2], study, oracle)
     texts = " ".join("".join(it.itertext()) for it in picture.iter("{http://www.w3.org/2000/svg}text"))
     assert "Source: " in texts and study.text("#study-name") in texts
     study.click("#with-title")
@@ -115,7 +115,9 @@ def test_clipboard(study: Page, is_exact: bool) -> None:
     study.click("#paste")
     study.at("#paste-text").send_keys(Keys.CONTROL, "v")
     text = str(study.at("#paste-text").get_property("value"))
-    copied = {int(line.split("\t")[0]): line.split("\t")[2:] for line in text.splitlines()[1:-1]}
+    # The last column has the vetoes.
+    copied = {int(line.split("\t")[0]): line.split("\t")[2:-1] for line in text.splitlines()[1:-1]}
+    assert text.splitlines()[0].endswith("\tVeto")
     assert text.splitlines()[-1].startswith("\tAll chairs\t")
     shown = {chair: [cell[is_exact] for cell in cells[1:]] for chair, cells in table_rows(study).items()}
     plain = {chair: [re.sub(",| %$", "", it).replace("−", "-") for it in cells] for chair, cells in shown.items()}

@@ -30,7 +30,7 @@ SVG = "{http://www.w3.org/2000/svg}"
 # Draws a file's figure on the page and gives its texts that reach beyond it, or into another text of the same line.
 BEYOND = """
   const place = document.createElement("div");
-  place.innerHTML = arguments[0].split("-->")[1];
+  place.innerHTML = arguments[0];
   document.body.append(place);
   const svg = place.querySelector("svg"), box = svg.getBoundingClientRect();
   const texts = [...svg.querySelectorAll("text")].map((it) => [it, it.getBoundingClientRect()]);
@@ -108,6 +108,8 @@ def test_svg_at_each_width(study: Page, tab: str) -> None:
             choose(study, width, face)
             text = svg_file(study)
             study.press(Keys.ESCAPE)
+            # Inkscape draws "transparent" black, and LibreOffice looks for the tag at the file's beginning.
+            assert text.startswith("<svg ") and "transparent" not in text
             root = ElementTree.fromstring(text)
             units = [float(it) for it in root.get("viewBox", "").split()]
             assert root.get("width") == f"{millimetres:g}mm" and abs(units[2] - millimetres / INCH * 96) < 0.01

@@ -7,6 +7,7 @@ import re
 from collections.abc import Iterator
 from fractions import Fraction
 from typing import Any
+from zipfile import ZipFile
 
 import openpyxl  # type: ignore[import]
 import pytest
@@ -83,7 +84,15 @@ def named(page: Page, names: list[str]) -> None:
 
 
 def tex_table(page: Page) -> Table:
-    return read(str(page.act("exported", "export-tex")))
+    """The table for LaTeX, without the column of vetoes, which is the last one where there is one."""
+    return without_vetoes(read(str(page.act("exported", "export-tex"))))
+
+
+def without_vetoes(table: Table) -> Table:
+    if table.heads[0][-1] == "Veto":
+        for row in [*table.heads, *table.rows, table.sums]:
+            row.pop()
+    return table
 
 
 def signed(number: Fraction, places: int) -> str:
@@ -161,7 +170,7 @@ def test_latex(study: Page, oracle: Oracle) -> None:
         for column in zip(*(it[2:] for it in table.rows)):
             assert len({len(cell.partition(".")[2]) for cell in column if cell}) == 1, "points that don't align"
     assert compared == 5 * 24 * (5 + 3 * len(MAJORITIES)) + 24 * len(MAJORITIES)
-    assert table.rules[1].count("cmidrule") == 2 + len(MAJORITIES) and len(table.rules) == 5
+    assert table.rules[1].count("cmidrule") == 3 + len(MAJORITIES) and len(table.rules) == 5
 
 
 def test_latex_fractions_and_order(study: Page, oracle: Oracle) -> None:
@@ -215,6 +224,37 @@ def test_latex_names(page: Page) -> None:
     assert [it[1] for it in tex_table(page).rows] == ["=cmd|' /C calc'!A0", "+1-2", "-Minus"]
 
 
+def wanted_vetoes(found: dict[str, dict[int, Pair]], chair: int) -> set[tuple[str, str]]:
+    """What a chair's cell must say: the words and the majority of each kind of power, by the oracle's counts."""
+    wanted = set[tuple[str, str]]()
+    for majority, pair in ((it, found[it][chair]) for it in MAJORITIES):
+        had, has = (of.swings == reading.winning for reading, of in pair)
+        is_alone = has and pair[1][1].swings == 2 ** len(pair[1][0].chairs) - pair[1][0].winning
+        kind = "alone" if is_alone else "veto" if has else "" if pair[1][1].swings else "no power"
+        words = ("gains veto" if has else "loses veto") if had != has else kind
+        wanted |= {(words, LABELS[majority])} if words else set()
+    return wanted
+
+
+def test_vetoes_in_files(study: Page, oracle: Oracle) -> None:
+    # Catches: a table without the vetoes that stand beside the names on the page, or with one of another chair.
+    found = pairs(oracle, MAJORITIES)
+    table = read(str(study.act("exported", "export-tex")))
+    assert [it[-1] for it in table.heads] == ["Veto", ""] and table.sums[-1] == ""
+    cells = {int(it[0]): it[-1] for it in table.rows}
+    for chair, cell in cells.items():
+        parts = re.findall(r"(?:^|; )([a-z ]+) \(([^)]*)\)", cell)
+        assert {(words, at) for words, ats in parts for at in ats.split(" and ")} == wanted_vetoes(found, chair), cell
+    assert cells[1].endswith("loses veto (85 per cent)") and cells[2] == "gains veto (85 per cent)"
+    heads, *rows = workbook(study)[1]["Shown"].iter_rows(values_only=True)
+    assert heads[-1] == "Veto" and {row[0]: row[-1] or "" for row in rows[:-1]} == cells
+    study.click("#export")
+    study.click("#export-copy")
+    study.until(lambda: study.text("#export-words"), "a word of the copy")
+    lines = [it.split("\t") for it in pasted(study).splitlines()]
+    assert lines[0][-1] == "Veto" and {int(it[0]): it[-1] for it in lines[1:-1]} == cells
+
+
 def test_latex_chairs_that_open_and_close(page: Page) -> None:
     # Catches: a chair that isn't open in one of the boards with a number there, or a row that lost a cell.
     for code in ["XAA", "XAD"]:
@@ -228,6 +268,17 @@ def test_latex_chairs_that_open_and_close(page: Page) -> None:
     assert closed[votes] == ["921,417", ""] and closed[share][0] and closed[share][1:] == ["", ""]
     assert new[votes] == ["", "0"] and new[share][0] == "" and new[share][1] and new[share][2] == ""
     assert closed[2] and closed[3:6] == ["", "", ""] and new[2] == "" and new[3] and new[4] == ""
+
+
+def test_blanks_of_a_workbook(page: Page) -> None:
+    # Catches: an attribute in each text, which R's openxlsx takes for a part of it; a blank at an edge that is lost.
+    opened(page, FORMULAS, "formulas")
+    page.click("#export")
+    with ZipFile(io.BytesIO(page.downloaded("#export-xlsx")[1])) as book:
+        texts = "".join(book.read(it).decode() for it in book.namelist() if "worksheets" in it)
+    found = re.findall('<t( xml:space="preserve")?>([^<]*)</t>', texts)
+    assert len(found) == texts.count("<t>") + texts.count("<t ") > 100
+    assert all(bool(space) == (text != text.strip()) for space, text in found)
 
 
 def workbook(page: Page) -> tuple[str, Any]:
@@ -288,7 +339,7 @@ def test_workbook_of_what_is_shown(study: Page) -> None:
     study.click("#tab-table")
     for left_out in ["ratio", "share"]:
         study.click(f"#table-{left_out}")
-    heads, *rows, sums = workbook(study)[1]["Shown"].iter_rows(values_only=True)
+    heads, *rows, sums = (row[:-1] for row in workbook(study)[1]["Shown"].iter_rows(values_only=True))
     shown = table_rows(study)
     assert [row[0] for row in rows] == list(shown) and len(heads) == 2 + 3 * len(MAJORITIES) + 2
     for chair, _, *cells in rows:

@@ -30,9 +30,9 @@ A list of class \code{"board_indices_of_many"}. By board: \code{chairs} (how man
 \code{total}, \code{coalitions}. By board and majority: \code{quota}, \code{least_size}, \code{omega}, \code{act}. By
 board and chair: \code{weights}. By board, majority and chair: \code{swings}, \code{banzhaf}, \code{share},
 \code{prevent}, \code{initiate}, which are \code{NA} for a chair that the board hasn't. They mean what they mean for
-\code{\link{board_indices}}. \code{names}, only if there are names of columns or in vectors, has those of chairs, by chair
-or by board and chair. \code{as.data.frame} has a row for each board, majority and chair; \code{board} is the name of the
-row or vector, or its place, and \code{name}, only if there are names, that of the chair.
+\code{\link{board_indices}}. \code{names}, only if there are names of columns or in vectors, has those of chairs, by
+chair or by board and chair. \code{as.data.frame} has a row for each board, majority and chair; \code{board} is the
+name of the row or vector, or its place, and \code{name}, only if there are names, that of the chair.
 }
 \section{Conditions}{
 Those of \code{\link{board_indices}}. The message begins with the board's place, as in

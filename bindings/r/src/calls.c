@@ -236,9 +236,9 @@ static SEXP r_members(SEXP votes, SEXP chairs, SEXP suspended, SEXP open, SEXP m
     return answer(refusal, &one, &all, number, names);
 }
 
-/* Many boards: their weights by board and chair, the numbers of their chairs, their totals, some majorities, and columns
- * for what is found: by board and majority the quota, the least size and omega; the swings by board, majority and chair.
- */
+/* Many boards: their weights by board and chair, the numbers of their chairs, their totals, some majorities, and
+ * columns for what is found: by board and majority the quota, the least size and omega; the swings by board, majority
+ * and chair. */
 struct many {
     SEXP majorities;
     const double *weights, *totals;

@@ -3,13 +3,13 @@ import { axisTop } from "d3-axis";
 import { scaleLinear, type Linear } from "d3-scale";
 import type { Selection } from "d3-selection";
 import {
-  axisText, caption, dot, dotScale, ended, footHeight, framed, headed, labelled, labelRoom, legendBar, majorityItems,
-  onAxis, panelsOf, rowGroup, rowHeight, TEXT, ticksOf, tinted, type LegendItem, type Look, type Panels,
+  axisText, caption, dot, dotScale, ended, footHeight, framed, haveRoom, headed, labelled, labelRoom, legendBar,
+  majorityItems, onAxis, panelsOf, rowGroup, rowHeight, TEXT, ticksOf, tinted, type LegendItem, type Look, type Panels,
 } from "./charts";
 import type { Line } from "../engine/columns";
 import type { ChairRow } from "../engine/compare";
 import { difference, type Ratio } from "../study/fractions";
-import { meanings, tagsOf, type Tag } from "../engine/kinds";
+import { fullWords, meanings, tagsOf, type Tag } from "../engine/kinds";
 import { measureOf, type ChairReading } from "../engine/reading";
 import { MEASURE, type Majority, type Measure } from "../study/words";
 
@@ -82,14 +82,27 @@ function scalesOf(all: readonly Drawn[], { places }: Panels, isGain: boolean): L
   return places.map(([left, right]) => scaleLinear().domain([from, to]).range([left, right]).nice(5));
 }
 
-/** On paper there is room for what a change did. */
-const TURNS: Readonly<Record<string, string>> = { "+ veto": "gains veto", "− veto": "loses veto" };
+/** The tags of a row: in full words, or where names would be cut, in short ones, and then the most important alone. */
+const FORMS: readonly ((tags: readonly Tag[]) => readonly Tag[])[] = [
+  (tags) => tags.map((it) => ({ ...it, words: fullWords(it) })),
+  (tags) => tags,
+  (tags) => [...tags].sort((one, other) => Number(one.turn === "") - Number(other.turn === "")).slice(0, 1),
+];
 
-function tagsOfLine({ cells }: Line): Tag[] {
-  return tagsOf(cells[cells.length - 1]?.at ?? new Map()).map((it) => ({ ...it, words: TURNS[it.words] ?? it.words }));
+/** A line with its tags. */
+interface Tagged extends Line {
+  readonly tags: readonly Tag[];
 }
 
-function legend({ lines, majorities, isChanged, compared, measure }: ChairModel, { isGain }: Kind): LegendItem[] {
+/** The lines with the longest tags beside which names have room. */
+function taggedLines({ lines }: ChairModel, look: Look): Tagged[] {
+  const forms = FORMS.map((form) =>
+    lines.map((it) => ({ ...it, tags: form(tagsOf(it.cells[it.cells.length - 1]?.at ?? new Map())) })));
+  return forms.find((it) => haveRoom(it, look)) ?? forms[forms.length - 1] ?? [];
+}
+
+function legend(lines: readonly Tagged[], model: ChairModel, { isGain }: Kind): LegendItem[] {
+  const { majorities, isChanged, compared, measure } = model;
   const votes: LegendItem = {
     words: isGain ? "votes" : "share of votes", draw: (at, { bar }) => void legendBar(at).attr("fill", bar),
   };
@@ -102,7 +115,7 @@ function legend({ lines, majorities, isChanged, compared, measure }: ChairModel,
     draw: (at, { faint }) => void at.append("line").attr("y1", -5).attr("y2", 5).attr("stroke", faint),
   };
   const before = isChanged && !isGain ? [hollow, ...(measure === "share" ? [was] : [])] : [];
-  const kinds = meanings(lines.flatMap(tagsOfLine)).map(({ tag, words }): LegendItem => {
+  const kinds = meanings(lines.flatMap((it) => it.tags)).map(({ tag, words }): LegendItem => {
     return { words: `${tag}: ${words}`, draw: () => {} };
   });
   return [...(measure === "share" ? [votes] : []), ...marks, ...before, ...kinds];
@@ -119,13 +132,13 @@ function wordsOf({ panels, compared, measure }: ChairModel, { isGain }: Kind): s
 /** Draws a chart into a place. Each row has a group with the chair's number in `data-chair`. */
 function draw(target: Element, model: ChairModel, asked: Look, kind: Kind): void {
   const { measure } = model;
-  const lines = model.lines.map((it) => ({ ...it, tags: tagsOfLine(it) }));
+  const lines = taggedLines(model, asked);
   const { left, head } = labelRoom(lines, asked);
   const panels = panelsOf(model.panels.length, left, asked);
   const look = { ...asked, width: panels.width };
   const { label } = MEASURE[measure];
   const name = `${kind.isGain ? "What is added to " : ""}${label} of ${lines.length} chairs; the table has its numbers`;
-  const frame = framed(target, look, legend(model, kind), name);
+  const frame = framed(target, look, legend(lines, model, kind), name);
   const rows = lines.map((line) => line.cells.map((it) => kind.drawn(it, model)));
   const scales = scalesOf(rows.flat(), panels, kind.isGain);
   const top = headed(frame, model.panels, panels, look, wordsOf(model, kind)) + 4;

@@ -230,10 +230,20 @@ export function headed(frame: Frame, names: readonly string[], panels: Panels, l
   return axes + 20;
 }
 
+/** The width of the longest name with its tags. */
+function longestOf(rows: readonly Named[], look: Look): number {
+  return Math.max(0, ...rows.map((row) => look.typeface.width(nameOf(row), TEXT) + tagRoom(row, look))) + 18;
+}
+
+/** Whether no name beside its tags is cut. */
+export function haveRoom(rows: readonly Named[], look: Look): boolean {
+  return !look.isTight || longestOf(rows, look) <= look.width * MOST_TAGGED;
+}
+
 /** Where rows begin: names are to the left of them, or above them if there is little room. */
 export function labelRoom(rows: readonly Named[], look: Look): { left: number; head: number } {
-  const { width, typeface, isTight } = look;
-  const longest = Math.max(0, ...rows.map((row) => typeface.width(nameOf(row), TEXT) + tagRoom(row, look))) + 18;
+  const { width, isTight } = look;
+  const longest = longestOf(rows, look);
   const most = rows.some((it) => it.tags?.length) ? MOST_TAGGED : MOST_LABEL;
   if (isTight) return { left: Math.max(30, Math.min(longest, width * most)), head: 0 };
   return width < 480 || longest > width / 2 ? { left: 10, head: 17 } : {
@@ -263,7 +273,7 @@ export function rowGroup(
 ): Selection {
   const group = root.append("g").attr("transform", `translate(0,${top})`).attr("data-chair", row.chair);
   const band = group.append("rect").attr("width", look.width).attr("height", height);
-  band.attr("fill", isOnBand ? look.palette.band : "transparent").attr("fill-opacity", 0.55);
+  band.attr("fill", isOnBand ? look.palette.band : "none").attr("fill-opacity", 0.55);
   return group;
 }
 

@@ -78,7 +78,7 @@ function groupsOf({ root }: Frame, { all }: SizesModel, { x, top }: Panel, { bot
   return all.map((_, size) => {
     const group = root.append("g").attr("data-size", size);
     const band = group.append("rect").attr("x", x(size) - width / 2).attr("width", width).attr("y", top);
-    band.attr("height", bottom - top).attr("fill", "transparent");
+    band.attr("height", bottom - top).attr("fill", "none").attr("pointer-events", "all");
     return group;
   });
 }

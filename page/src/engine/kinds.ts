@@ -117,3 +117,17 @@ export function tagsOf(at: ReadonlyMap<Majority, Compared>): Tag[] {
   }
   return [...found.values()];
 }
+
+/** On paper there is room for what a change did. */
+const TURNS: Readonly<Record<string, string>> = { "+ veto": "gains veto", "− veto": "loses veto" };
+
+/** The words of a tag, where they aren't short. */
+export function fullWords({ words }: Tag): string {
+  return TURNS[words] ?? words;
+}
+
+/** The tags of a chair for the cell of a table, such as `veto (85 per cent)`. */
+export function tagWords(tags: readonly Tag[]): string {
+  const ats = ({ majorities }: Tag) => majorities.map((it) => MAJORITY[it].label).join(" and ");
+  return tags.map((it) => `${fullWords(it)} (${ats(it)})`).join("; ");
+}

@@ -1,6 +1,7 @@
 /** The table of chairs: its headings and its exact cells, which the page, the clipboard, LaTeX and workbooks write. */
 import { comparedLabel, type Columns, type Line } from "../engine/columns";
 import { gainText, gainUnit, valueText } from "../engine/compare";
+import { tagsOf, tagWords } from "../engine/kinds";
 import {
   difference, fractionText, grouped, over, percent, quotient, rounded, sum, type Ratio,
 } from "../study/fractions";
@@ -26,6 +27,8 @@ export interface Cell {
   readonly unit: string;
   readonly fraction: string;
   readonly source: string;
+  /** Whether it has words in place of a number. */
+  readonly isText?: true;
 }
 
 /** A column: what it is of, its heading, its cell in a line, and how its sum is written where that means something. */
@@ -187,6 +190,17 @@ export function chairCells(columns: Columns, view: View): ChairTable {
   const lines = columns.lines.map((line) => ({ line, cells: shown.map((it) => it.cell(line)) }));
   const sums = shown.map((it, at) => sumOf(lines.map(({ cells }) => cells[at]), it.sum));
   return { heads: shown.map((it) => it.head), lines, sums };
+}
+
+/** The table for a file, which has no tags beside names: where there are some, its last column has their words. */
+export function withVetoes(table: ChairTable): ChairTable {
+  const words = table.lines.map(({ line: { cells } }) => tagWords(tagsOf(cells[cells.length - 1]?.at ?? new Map())));
+  if (words.every((it) => it === "")) return table;
+  const head: Head = { group: "Veto", own: "", words: "Veto", mark: "counted" };
+  const source = "counted: PREVENT";
+  const cell = (it: string): Cell => ({ ...EMPTY, decimal: it, fraction: it, source, isText: true });
+  const lines = table.lines.map(({ line, cells }, at) => ({ line, cells: [...cells, cell(words[at] ?? "")] }));
+  return { heads: [...table.heads, head], lines, sums: [...table.sums, null] };
 }
 
 /** What is written in a cell: its decimal, or its fraction. */

@@ -112,8 +112,15 @@ function drawn(figure: Figure, { width, most, family, hasTitle }: FigureChoice, 
   return { svg, width, height, most, title: figure.title, lines: [...firstLines(found), words] };
 }
 
+/** The text of a drawing with lines in a comment. LibreOffice looks for the tag of the drawing at the beginning of the
+ * file, so the comment is inside of it. */
+export function withComment(drawing: string, lines: readonly string[]): string {
+  const comment = lines.map((it) => it.replace(/--+/g, "-")).join("\n");
+  const end = drawing.indexOf(">") + 1;
+  return `${drawing.slice(0, end)}\n<!--\n${comment}\n-->\n${drawing.slice(end)}\n`;
+}
+
 /** The text of a figure's file. */
 export function svgText({ svg, lines }: DrawnFigure): string {
-  const comment = lines.map((it) => it.replace(/--+/g, "-")).join("\n");
-  return `<!--\n${comment}\n-->\n${new XMLSerializer().serializeToString(svg)}\n`;
+  return withComment(new XMLSerializer().serializeToString(svg), lines);
 }

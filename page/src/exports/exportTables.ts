@@ -1,6 +1,6 @@
 /** Tables for exports: CSV, a workbook, LaTeX, and text with tabs. */
 import type { App, Shown } from "../views/app";
-import { chairCells, shownCell, type Cell, type ChairTable } from "./chairCells";
+import { chairCells, shownCell, withVetoes, type Cell, type ChairTable } from "./chairCells";
 import { columnsOf, type Columns } from "../engine/columns";
 import { csvOf, plainCell, plainLine, tableOf, type Cell as CsvCell } from "./csv";
 import { textFile } from "./exportFile";
@@ -72,7 +72,7 @@ export async function workbookFile(app: App): Promise<Blob> {
   const table = tableOf(all);
   const numbers = table.map((row) => row.map((cell, at) => valueIn(cell, table[0]?.[at])));
   const sheets: Sheet[] = [
-    { name: "Shown", rows: shownRows(chairCells(columnsOf(app, shown), app.view)), widths: [8, 34, 18] },
+    { name: "Shown", rows: shownRows(withVetoes(chairCells(columnsOf(app, shown), app.view))), widths: [8, 34, 18] },
     { name: "Table", rows: numbers, widths: WIDTHS },
     { name: "Fractions", rows: fractionRows(table), widths: [14, 14, 14, 10, 8, 30, 34] },
     { name: "Source", rows: await sourceRows(app, shown, sources), widths: [24, 110] },
@@ -84,7 +84,7 @@ export async function workbookFile(app: App): Promise<Blob> {
 async function shownTable(app: App): Promise<{ shown: Shown; columns: Columns; table: ChairTable }> {
   const shown = await app.whole();
   const columns = columnsOf(app, shown);
-  return { shown, columns, table: chairCells(columns, app.view) };
+  return { shown, columns, table: withVetoes(chairCells(columns, app.view)) };
 }
 
 /** That table for LaTeX. */
@@ -110,8 +110,8 @@ export async function shownText(app: App): Promise<string> {
 
 /** That table as numbers for a sheet of a workbook. */
 function shownRows({ heads, lines, sums }: ChairTable): Value[][] {
-  const number = (it: Cell | null) => (it?.value ? Number(rounded(it.value, PLACES)) : null);
-  const rows = lines.map(({ line, cells }): Value[] => [line.chair, line.name, ...cells.map(number)]);
-  const all: Value[] = [null, "All chairs", ...sums.map(number)];
+  const value = (it: Cell | null) => (it?.isText ? it.decimal : it?.value ? Number(rounded(it.value, PLACES)) : null);
+  const rows = lines.map(({ line, cells }): Value[] => [line.chair, line.name, ...cells.map(value)]);
+  const all: Value[] = [null, "All chairs", ...sums.map(value)];
   return [["Chair", "Name", ...heads.map((it) => it.words)], ...rows, all];
 }

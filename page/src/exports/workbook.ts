@@ -58,7 +58,9 @@ function cellOf(value: Value, place: string, isHead: boolean): string {
   if (value === null || value === "") return "";
   if (typeof value === "number") return `<c r="${place}"><v>${value}</v></c>`;
   const style = isHead ? HEAD_STYLE : TEXT_STYLE;
-  return `<c r="${place}" s="${style}" t="inlineStr"><is><t xml:space="preserve">${escaped(value)}</t></is></c>`;
+  // R's openxlsx takes the attribute for a part of the text, so only a text that needs it has it.
+  const space = /^\s|\s$|[\t\n]/.test(value) ? ' xml:space="preserve"' : "";
+  return `<c r="${place}" s="${style}" t="inlineStr"><is><t${space}>${escaped(value)}</t></is></c>`;
 }
 
 function sheetOf({ rows, widths }: Sheet): string {

@@ -1,15 +1,15 @@
-/** Cells of chairs with a Director over an alternate, and tables whose rows are chairs. */
+/** Cells of chairs with a Director over alternates, and tables whose rows are chairs. */
 import { CHAIRS } from "../study/words";
 import type { AlternateHead } from "./chairs";
 import type { Questions } from "./questions";
 import { rowsWords, type Line } from "./rows";
 import type { Layout } from "./types";
 
-/** The name of a chair in a cell of one or two lines. */
+/** The name of a chair in a cell of one or more lines. */
 type NameOf = (cell: string) => string;
-const hasTwo = (cell: string): boolean => /^[^\n]+\n[^\n]+$/.test(cell);
-const firstLine: NameOf = (cell) => (hasTwo(cell) ? cell.split("\n")[0] ?? "" : cell);
-const bothLines: NameOf = (cell) => (hasTwo(cell) ? cell.replace("\n", ", ") : cell);
+const hasLines = (cell: string): boolean => /^[^\n]+(\n[^\n]+)+$/.test(cell);
+const firstLine: NameOf = (cell) => (hasLines(cell) ? cell.split("\n")[0] ?? "" : cell);
+const allLines: NameOf = (cell) => (hasLines(cell) ? cell.replace(/\n/g, ", ") : cell);
 
 /** Rows with the names of chairs in one line, and where else the alternates are. */
 interface Directed {
@@ -17,25 +17,28 @@ interface Directed {
   readonly head: AlternateHead;
 }
 
-/** The rows with the first of two lines in a chair's cell, if the other one is an alternate's. */
+/** The rows with the first line of a chair's cell, if the others are those of alternates. */
 export function withDirectors(lines: readonly Line[], head: AlternateHead, questions: Questions): Directed {
-  const cellOf = ({ cells }: Line) => [cells.chair, cells.chairName].find(hasTwo);
+  const cellOf = ({ cells }: Line) => [cells.chair, cells.chairName].find(hasLines);
   const found = lines.filter(cellOf);
-  const [director = "", alternate = ""] = (found[0] ? cellOf(found[0]) ?? "" : "").split("\n");
+  const [director = "", ...others] = (found[0] ? cellOf(found[0]) ?? "" : "").split("\n");
   if (!found.length) return { lines, head };
   const rows = rowsWords(found.map(({ row }) => row));
-  const left = `Names of alternates below those of Directors were left out: ${rows}, such as '${alternate}'`;
+  const isTwo = others.length < 2;
+  const alternates = others.map((it) => `'${it}'`).join(" and ");
+  const left = `Names of alternates below those of Directors were left out: ${rows}, such as ${alternates}`;
   const answer = head === "named" ? "yes" : questions.ask({
     id: "directors",
     kind: "alternate",
-    words: `A Director and an alternate? The chair's cell has two lines in ${rows}, such as '${director}' over ` +
-      `'${alternate}'.`,
+    words: `A Director and ${isTwo ? "an alternate" : "alternates"}? The chair's cell has ` +
+      `${isTwo ? "two" : "several"} lines in ${rows}, such as '${director}' over ${alternates}.`,
     options: [
       { key: "yes", words: "Yes: the chair has the name of the first line", choice: left },
-      { key: "no", words: "No: both lines are its name", choice: `Both lines are the chair's name in ${rows}` },
+      { key: "no", words: `No: ${isTwo ? "both" : "all"} lines are its name`,
+        choice: `${isTwo ? "Both" : "All"} lines are the chair's name in ${rows}` },
     ],
   });
-  const nameOf = answer === "no" ? bothLines : firstLine;
+  const nameOf = answer === "no" ? allLines : firstLine;
   const named = lines.map(({ cells, ...it }): Line => {
     return { ...it, cells: { ...cells, chair: nameOf(cells.chair), chairName: nameOf(cells.chairName) } };
   });

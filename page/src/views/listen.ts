@@ -127,6 +127,9 @@ function buttons(app: App): void {
     open.open = false;
     open.querySelector("summary")?.focus();
   });
+  // The menu below the list may open beyond the window, or below the bar of a phone.
+  const add = byId<HTMLDetailsElement>("add");
+  add.addEventListener("toggle", () => add.open && byId("add-body").scrollIntoView({ block: "nearest" }));
   addEventListener("scroll", hideTip, { passive: true });
   onClick("clear-changes", () => app.take(withChanges(app.study, [])));
 }
