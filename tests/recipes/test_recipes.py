@@ -1,5 +1,5 @@
 """The recipes of docs/EMBEDDING.md, STUDIES.md and VALIDATION.md, compared with the output below them; the records of
-docs/FORMATS.md, "Why was my record refused?", with what it says; and README.md's commands for a clone.
+docs/FORMATS.md, "Why was my record refused?", with what it says; and README.md's commands for a clone, and numbers.
 
 The recipes of a document run one after another in a copy of what they use, with the program as ./board and a python3
 that has pandas and matplotlib."""
@@ -17,9 +17,8 @@ import pytest
 from tests.release.outside import path_without
 from tests.shared.commands import TOP, ended, printed, user_environment
 
-BLOCK = re.compile(r"^```(sh|r)\n(.*?)^```\n(?:\n```text\n(.*?)^```$)?", re.MULTILINE | re.DOTALL)
+BLOCK = re.compile(r"^```sh\n(.*?)^```\n(?:\n```text\n(.*?)^```$)?", re.MULTILINE | re.DOTALL)
 SECTION = re.compile(r"^### ([^\n]*)\n(.*?)(?=^##|\Z)", re.MULTILINE | re.DOTALL)
-WORDS = {"sh": ["bash", "-eu", "-o", "pipefail", "-c"], "r": ["Rscript", "-e"]}
 USED = ["bindings/python/commands", "bindings/python/src", "board.html", "docs", "examples", "portable", "tests/cases"]
 SECONDS = 300
 # The C file takes some ten seconds to compile, so this compiler takes the library that the commands have made of it.
@@ -42,10 +41,9 @@ AROUND = {
 
 @dataclass(frozen=True)
 class Recipe:
-    """A block that can be pasted: where it stands, its language, its code, and what it must print."""
+    """A block that can be pasted: where it stands, its code, and what it must print."""
 
     name: str
-    language: str
     code: str
     wanted: str
 
@@ -59,7 +57,7 @@ def recipes() -> list[Recipe]:
         text = (TOP / "docs" / name).read_text()
         for block in BLOCK.finditer(text):
             line = text.count("\n", 0, block.start()) + 1
-            found.append(Recipe(f"{name} line {line}", block[1], block[2], block[3] or ""))
+            found.append(Recipe(f"{name} line {line}", block[1], block[2] or ""))
     return found
 
 
@@ -120,7 +118,7 @@ def room(program: Path, tmp_path_factory: pytest.TempPathFactory) -> Room:
 @pytest.mark.parametrize("recipe", recipes(), ids=str)
 def test_recipe(room: Room, recipe: Recipe) -> None:
     # Catches: a command of a document that fails, or that prints something else than the document says.
-    words = [*WORDS[recipe.language], recipe.code]
+    words = ["bash", "-eu", "-o", "pipefail", "-c", recipe.code]
     done = subprocess.run(
         words,
         cwd=room.folder,
@@ -141,6 +139,14 @@ def test_record(program: Path, heading: str, row: str, wanted: str) -> None:
     before, after = (it.encode() for it in AROUND[heading])
     done = ended([str(program), "replay"], before + text + after)
     assert done.output.decode().splitlines()[-1] == wanted
+
+
+def test_numbers_of_the_example(program: Path) -> None:
+    # Catches: a sentence of README.md below its example that gives chair 1 another fraction than the program does.
+    [sentence] = re.findall(r"^This reading is .*?\n\n", (TOP / "README.md").read_text(), re.MULTILINE | re.DOTALL)
+    lines = printed([str(program), "replay"], (TOP / "examples" / "three-chairs.csv").read_bytes()).decode()
+    [chair] = re.findall("^chair,1,.*$", lines, re.MULTILINE)
+    assert re.findall(r"\d+/\d+", sentence) == re.findall(r"\d+/\d+", chair)
 
 
 def test_clone(program: Path, tmp_path: Path) -> None:
