@@ -1,5 +1,6 @@
 """The recipes of docs/EMBEDDING.md, STUDIES.md and VALIDATION.md, compared with the output below them; the records of
-docs/FORMATS.md, "Why was my record refused?", with what it says; and README.md's commands for a clone, and numbers.
+docs/FORMATS.md, "Why was my record refused?", and those of records.txt, with what they say; README.md's commands for a
+clone, and its numbers.
 
 The recipes of a document run one after another in a copy of what they use, with the program as ./board and a python3
 that has pandas and matplotlib."""
@@ -62,9 +63,11 @@ def recipes() -> list[Recipe]:
 
 
 def records() -> list[tuple[str, str, str]]:
-    """The records of docs/FORMATS.md, "Why was my record refused?": the heading, the record, and what it gives."""
-    sections = dict(SECTION.findall((TOP / "docs" / "FORMATS.md").read_text()))
-    return [(heading, *it) for heading in AROUND for it in [*said(sections[heading]), *rows(sections[heading])]]
+    """The records of docs/FORMATS.md, "Why was my record refused?", and more: the heading, the record, and what it
+    gives."""
+    texts = [TOP / "docs" / "FORMATS.md", Path(__file__).with_name("records.txt")]
+    sections = [it for path in texts for it in SECTION.findall(path.read_text()) if it[0] in AROUND]
+    return [(heading, *it) for heading, text in sections for it in [*said(text), *rows(text)]]
 
 
 def said(text: str) -> list[tuple[str, str]]:
