@@ -27,7 +27,7 @@ PLANTED = [
     ("a function that is gone", "tools/clauses.txt", "_law:", "_law_that_is_gone:", "no function"),
     ("a wrong limit", "docs/FORMATS.md", "chairs are 1 to 32", "chairs are 1 to 33", "the limit of chairs is 32"),
     ("a wrong limit of the page", "docs/PAGE.md", "(at most 60)", "(at most 80)", "docs/PAGE.md: 80"),
-    ("a made part changed by hand", "README.md", "At most 32 chairs", "At most 31 chairs", "tools/made makes another"),
+    ("a made part changed by hand", "docs/FORMATS.md", "At most 32 chairs", "At most 31 chairs", "tools/made makes"),
 ]
 
 
