@@ -21,7 +21,7 @@ PLANTED = [
     ("a wrong name", "SECURITY.md", "", f"\nThe call `{NOWHERE}`.\n", f"named `{NOWHERE}`"),
     ("a wrong name in the newest changes", "CHANGELOG.md", "\n### ", f"\n`{NOWHERE}`\n\n### ", f"named `{NOWHERE}`"),
     ("a wrong goal in a sentence", "docs/CONTRIBUTING.md", "page-tests python", "page-test python", "no goal page-test"),
-    ("a wrong goal in a block", "bindings/python/README.md", "    make KIT= python", "    make KIT= snake", "no goal snake"),
+    ("a wrong goal in a block", "bindings/r/README.md", "    make KIT= r\n", "    make KIT= arr\n", "no goal arr"),
     ("a wrong clause", "docs/PROOF.md", "`exact`, `same`", "`exact`, `never`", "a clause `never`"),
     ("a clause that is gone", "tools/clauses.txt", "evaluate: exact", "evaluate: gone", "has no clause gone"),
     ("a function that is gone", "tools/clauses.txt", "_law:", "_law_that_is_gone:", "no function"),
