@@ -41,7 +41,7 @@ def test_many_boards_on_a_cluster(tmp_path: Path) -> None:
 
 @pytest.mark.parametrize("name", voting_board.__all__)
 def test_help(name: str) -> None:
-    # Catches: a public call or class, or a public method of one, without help of its own, which the README leaves to it.
+    # Catches: a public call, class or method without help of its own: the README lists none of them.
     public = getattr(voting_board, name)
     if not isinstance(public, (type, FunctionType)):
         return
