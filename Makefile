@@ -9,17 +9,24 @@ SHELL       := bash
 .DELETE_ON_ERROR:
 .SECONDEXPANSION:
 .SECONDARY:
-.DEFAULT_GOAL := board
+.DEFAULT_GOAL := portable
 
 ifneq ($(word 2,$(CURDIR)),)
 $(error make can't work in a folder with a space in its name: $(CURDIR))
 endif
+# With -n or -q no goal does anything, and -t, which would mark as proved what isn't, is refused.
+LETTERS := $(firstword -$(MAKEFLAGS))
+DRY     := $(findstring n,$(LETTERS))$(findstring q,$(LETTERS))
+$(if $(findstring t,$(LETTERS)),$(error make -t would mark as made, and as proved, what isn't))
+
 O    := $(CURDIR)/out
 NOW  := $(shell date +@%s.%N)
 KIT  := $(patsubst %/bin/rt,%,$(realpath $(shell command -v rt)))
 ifneq ($(KIT),)
 # out/kit names the toolchain that made the results.
-$(shell mkdir -p $O; cmp -s $(KIT)/KIT-ID $O/kit || cp $(KIT)/KIT-ID $O/kit)
+$(if $(DRY),,$(shell cmp -s $(KIT)/KIT-ID $O/kit || rm -f $O/kit))
+$O/kit:
+	@mkdir -p $O && cp $(KIT)/KIT-ID $@
 else
 .PHONY: $O/kit
 $O/kit:
@@ -31,18 +38,18 @@ MODULE       := $(if $(KIT),portable/wasm,page)/out/board.wasm
 export BOARD := $(if $(KIT),$O/board,$(CURDIR)/portable/out/board)
 
 # As many processes as there are processors, and 3 GB of memory for each.
-JOBS := $(shell awk -v most=$$(nproc) '/^MemTotal/ {n = int($$2 / 3e6); print n < 1 ? 1 : n < most ? n : most}' \
-            /proc/meminfo)
+JOBS := $(or $(shell awk -v most=$$(nproc) '/^MemTotal/ {n = int($$2 / 3e6); print n < 1 ? 1 : n < most ? n : most}' \
+                 /proc/meminfo 2>/dev/null),1)
 ifeq ($(MAKELEVEL)$(findstring -j,$(MAKEFLAGS)),0)
 MAKEFLAGS += -j$(JOBS)
 endif
 MAKEFLAGS += --no-print-directory
 
 # uses_NAME := the crates that a crate depends on
-$O/crates.mk: crates.txt
-	@mkdir -p $O
-	sed -nE 's/^([a-z][a-z0-9_]*)[^:]*: *(.*)$$/uses_\1 := \2/p' $< >$@
--include $O/crates.mk
+comma  := ,
+space  := $() $()
+rows   := $(shell sed -nE 's/^([a-z][a-z0-9_]*)[^:]*: *(.*)$$/uses_\1:=\2/p' crates.txt | tr ' ' ,)
+$(foreach it,$(rows),$(eval $(subst $(comma),$(space),$(it))))
 CRATES := $(patsubst uses_%,%,$(filter uses_%,$(.VARIABLES)))
 STATIC := $(shell sed -nE 's/^([a-z0-9_]+) .*\bstaticlib\b.*/\1/p' crates.txt)
 EDITED := $(patsubst crates/%/must-fail,%,$(wildcard crates/*/must-fail))
@@ -131,75 +138,70 @@ page: $(MODULE)  ## the page, page/out/board.html
 	@MODULE=$(CURDIR)/$< page/build
 release: $O/proved module page $(modules)  ## a release of what the packages' parts have made, too: two archives in out
 	@tools/release/build
-PREFIX    ?= /usr/local
-LIBDIR    ?= $(PREFIX)/lib
-INSTALLED  = $(DESTDIR)$(PREFIX)
-install: $(if $(KIT),board $(modules),$(PROGRAM))  ## program, manual and library: DESTDIR, PREFIX, LIBDIR
-	@umask 022 && mkdir -p "$(INSTALLED)"/bin "$(INSTALLED)"/share/man/man1
-	cp $(BOARD) "$(INSTALLED)"/bin
-	CC="$(CC)" CPPFLAGS="$(CPPFLAGS)" CFLAGS="$(CFLAGS)" LDFLAGS="$(LDFLAGS)" \
-	  tools/release/library "$(INSTALLED)" "$(DESTDIR)$(LIBDIR)" $(if $(KIT),,portable/board.c)
-	tools/release/manual $(BOARD) "$(INSTALLED)"/share/man/man1
+# Of what rt has proved, or, with KIT=, of the C file.
+PREFIX ?= /usr/local
+LIBDIR ?= $(PREFIX)/lib
+install: $(if $(KIT),board $(modules),$(PROGRAM))  ## program, manual and library: DESTDIR, PREFIX, LIBDIR, KIT=
+	@DESTDIR="$(DESTDIR)" CC="$(CC)" CPPFLAGS="$(CPPFLAGS)" CFLAGS="$(CFLAGS)" LDFLAGS="$(LDFLAGS)" \
+	  tools/release/install "$(PREFIX)" "$(LIBDIR)" $(if $(KIT),,portable/board.c)
 uninstall:  ## removes what `make install` put there
-	@rm -rf "$(INSTALLED)"/{bin/board,include/board.h,share/man/man1/board{,-*}.1} \
-	  "$(DESTDIR)$(LIBDIR)"/{libboard.*,pkgconfig/board.pc,cmake/board}
+	@DESTDIR="$(DESTDIR)" tools/release/install --remove "$(PREFIX)" "$(LIBDIR)"
 
 # The parts of the tests. Each prints a line for each test; tools/part counts them, prints 'N passed, M failed', and
-# keeps the output in out/said.
-said  = @tools/part $@ $1
-comma := ,
+# keeps the output in out/results.
+part = @tools/part $@ $1
 docs:  ## names, links and made parts of the documents
-	$(call said,tools/check)
+	$(call part,tools/check)
 style:  ## how files are written: shellcheck, black, mypy, tsc, clang-format, rustfmt, columns
-	$(call said,tools/style)
+	$(call part,tools/style)
 lint:  ## what no clause can say of the sources
-	$(call said,tools/lint)
+	$(call part,tools/lint)
 tools:  ## make, the tools, and what anybody can do without rt
-	$(call said,tests/run tests/tools)
+	$(call part,tests/run tests/tools)
 prove: $O/proved  ## proofs of all crates by rt ci, and their tests
-	$(call said,tail -n 2 $<)
+	$(call part,tail -n 2 $<)
 steps: $(stepped)  ## the atomic steps, memory and writes of the compiled code
-	$(call said,tools/steps tools/steps.txt $^)
+	$(call part,tools/steps tools/steps.txt $^)
 steps-tests: $O/memory_tests.bc $O/board.bc  ## changes planted in the compiled code, which steps must refuse
-	$(call said,tests/run tests/steps)
+	$(call part,tests/run tests/steps)
 every   = $(if $(DEEP),$(EDITED))
 changed = $(or $(every),$(if $(KIT),$(shell tools/edits.py --untried)))
 edits:  ## the mutations of the crates that have changed since theirs were tried, or of ONLY=CRATE; writes the records
 	@$(MAKE) --keep-going $(or $(patsubst %,$O/%.edits,$(or $(ONLY),$(changed))),tried)
 tried: $$(patsubst %,$$O/%.edits,$$(changed))  ## the mutations: by their records, and tried where a crate has changed
-	$(call said,tools/edits.py --tried)
+	$(call part,tools/edits.py --tried)
 # One list of mutations of one crate, drawn by the commit, tried over no kept work.
 COMMIT := $(shell git rev-parse --short=7 HEAD 2>/dev/null || echo 0)
 DRAWN  := $(if $(EDITED),$(word $(shell echo $$((1 + 0x$(COMMIT) % $(words $(EDITED))))),$(EDITED)))
 drawn: $O/proved  ## one list of mutations of one crate, drawn by the commit
-	$(call said,tools/edits.py --draw $(COMMIT) $(call tries,$(DRAWN),none))
+	$(call part,tools/edits.py --draw $(COMMIT) $(call tries,$(DRAWN),none))
 cases: $(PROGRAM)  ## worked examples, and the examples of the documents, on the program
-	$(call said,$(if $(KIT),tests/run tests/cases,tests/cases/run --c $(BOARD)))
+	$(call part,$(if $(KIT),tests/run tests/cases,tests/cases/run --c $(BOARD)))
 promises: $(PROGRAM) $(if $(KIT),$(modules))  ## what stays as it is until the version says otherwise
-	$(call said,tests/run tests/promises)
+	$(call part,tests/run tests/promises)
 independent: $(PROGRAM)  ## the program against a Python reader written from the documents alone
-	$(call said,tests/run tests/independent $(if $(KIT),,--inputs 600 --c))
+	$(call part,tests/run tests/independent $(if $(KIT),,--inputs 600 --c))
 # The library for C once more, as one over which another crate can be checked.
 $O/board_c.rlib: $$(call sources,$$(call whole,board_c)) | $O/proved
 	@$(call rattle,board_c,build $(filter-out --crate-type staticlib,$(call over,board_c)) $(checked) -o $@)
 definitions: $O/proved $(if $(DEEP),$O/board_c.rlib)  ## definitions, computed by the prover, against the reader
-	$(call said,tests/run tests/definitions)
+	$(call part,tests/run tests/definitions)
 second: $(PROGRAM)  ## the definitions and their laws in Coq, and the program against what they compute
-	$(call said,tests/run tests/second -n 2)
+	$(call part,tests/run tests/second -n 2)
 memory: $O/proved $(modules)  ## each allocation refused in turn
-	$(call said,tests/run tests/memory)
+	$(call part,tests/run tests/memory)
 stress: $O/proved  ## rounds of the running board and of serve in real threads
-	$(call said,tests/run tests/stress)
+	$(call part,tests/run tests/stress)
 register: $(modules) $O/proved  ## the register's calls from C, against the program and a model
-	$(call said,tests/run tests/register -n 2)
+	$(call part,tests/run tests/register -n 2)
 script: $(modules) $O/proved  ## scripts read as data from C, against the program and the independent reader
-	$(call said,tests/run tests/script)
+	$(call part,tests/run tests/script)
 recipes: $(PROGRAM)  ## the recipes of the documents
-	$(call said,tests/run tests/recipes -n 2)
+	$(call part,tests/run tests/recipes -n 2)
 targets: $O/proved $(modules) module  ## the library and the WebAssembly module against the program
-	$(call said,tests/run tests/targets -n $(JOBS))
+	$(call part,tests/run tests/targets -n $(JOBS))
 compilers: $(PROGRAM) $(if $(KIT),one-file)  ## the C file by each compiler and on each system, against the program
-	$(call said,tests/run tests/portable -n $(JOBS) $(if $(KIT),,-k 'not test_another_folder and not test_is_made'))
+	$(call part,tests/run tests/portable -n $(JOBS) $(if $(KIT),,-k 'not test_another_folder and not test_is_made'))
 # What the program answers to boards, scripts and commands, with which each package is compared.
 answers := $O/answers$(if $(DEEP),-deep)/register.txt
 $(answers): $(PROGRAM) $(wildcard tests/packages/* tests/shared/*.py tests/cases/*)
@@ -209,17 +211,17 @@ r: $(answers)  ## the package for R
 rust: $(answers)  ## the crates for Rust
 javascript: $(answers) $(MODULE)  ## the package for JavaScript
 python r rust javascript:
-	$(call said,env -u MAKEFLAGS -u MFLAGS MODULE=$(CURDIR)/$(MODULE) BOARD_ANSWERS=$(dir $(answers)) bindings/$@/check)
+	$(call part,env -u MAKEFLAGS -u MFLAGS MODULE=$(CURDIR)/$(MODULE) BOARD_ANSWERS=$(dir $(answers)) bindings/$@/check)
 tables:  ## the page's reader of tables over a corpus of cases, in Node
-	$(call said,page/tables/run)
+	$(call part,page/tables/run)
 page-units: page  ## the page's modules, in Node
-	$(call said,env MODULE=$(CURDIR)/$(MODULE) page/units/run)
+	$(call part,env MODULE=$(CURDIR)/$(MODULE) page/units/run)
 page-tests: $(PROGRAM) page  ## board.html in Chromium and Firefox
-	$(call said,page/tests/run -n 2 --dist=loadfile)
+	$(call part,page/tests/run -n 2 --dist=loadfile)
 release-tests: release $(answers)  ## a release, unpacked and run without the toolchain
-	$(call said,env BOARD_ANSWERS=$(dir $(answers)) tests/run tests/release -n $(JOBS))
+	$(call part,env BOARD_ANSWERS=$(dir $(answers)) tests/run tests/release -n $(JOBS))
 from-text: $(CRATES:%=$O/deep/%.proved)  ## all proofs, the toolchain's too, from their text
-	$(call said,printf '%s\n' $(CRATES:%='% is proved from its text') '$(words $(CRATES)) passed$(comma) 0 failed')
+	$(call part,printf '%s\n' $(CRATES:%='% is proved from its text') '$(words $(CRATES)) passed$(comma) 0 failed')
 
 # The parts that come first, those that need no proof, those that do, which run beside them, and those of the deep gate
 # alone.
@@ -234,23 +236,21 @@ unproved:
 	+@$(MAKE) --keep-going $(UNPROVED) KIT=
 proved:
 	+@$(MAKE) --keep-going $(PROVED)
-# Makes groups of parts, one after the other as long as none fails, and adds up what tools/part has kept of each.
-define judged
-rm -rf $O/said && mkdir -p $O/said
-for group in $1; do $(MAKE) --keep-going --output-sync=target $$group $2 || break; done
-$(if $2,NOTE="$(NOTE)") tools/part --sum $(subst ",,$3)
+# After a command, makes groups of parts, one after the other as long as none fails, and adds up what tools/part has
+# kept of each. With -n it shows what each group would run.
+define parts
++@$(if $(DRY),,$1 && rm -rf $O/results)
+for group in $2; do $(MAKE) --keep-going --output-sync=target $$group $3 || $(if $(DRY),exit,break); done
+$(if $(DRY),,$(if $3,NOTE="$(NOTE)") tools/part --sum $(subst ",,$4))
 endef
 NOTE = Nothing was proved here: make prove proves $(words $(CRATES)) crates (a processor hour or more; it needs rt)
 check:  ## what can be tested in two minutes, without rt and without a proof
-	+@tools/install check $(CHECKS)
-	$(call judged,"$(CHECKS)",KIT=,$(CHECKS))
-gate: export GATE := 1
-gate:  ## all that must pass before a change lands
-	+@$(call judged,"$(FIRST)" "unproved proved",,$(FIRST) $(UNPROVED) $(PROVED))
-deep: export GATE := 1
+	$(call parts,tools/install check $(CHECKS),"$(CHECKS)",KIT=,$(CHECKS))
+gate:  ## all that must pass before a change is merged
+	$(call parts,:,"$(FIRST)" "unproved proved",,$(FIRST) $(UNPROVED) $(PROVED))
 deep: export DEEP := 1
 deep:  ## all tests in full, before a release: some hours
-	+@$(call judged,"$(FIRST)" "unproved proved" "$(DEEPER)",,$(FIRST) $(UNPROVED) $(PROVED) $(DEEPER))
+	$(call parts,:,"$(FIRST)" "unproved proved" "$(DEEPER)",,$(FIRST) $(UNPROVED) $(PROVED) $(DEEPER))
 clean:  ## removes all results
 	@rm -rf $O {portable/wasm,page,portable}/out
 help:  ## this list

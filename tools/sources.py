@@ -1,5 +1,4 @@
-"""What the documents take from the sources: the public calls of a crate with their contracts, and its modules of
-definitions."""
+"""What the tools take from the sources: the crates, and their functions with their contracts."""
 from __future__ import annotations
 
 import re
@@ -130,23 +129,3 @@ def public_functions(crate: str) -> list[Function]:
         if it.clauses and (it.owner or it.name) in names and (it.is_public or it.trait not in ("", "Model"))
     ]
     return sorted(public, key=lambda it: it.owner)
-
-
-@dataclass
-class Module:
-    """A module of definitions: its name, and what its first comment says of it."""
-
-    crate: str
-    name: str
-    purpose: str
-
-
-def modules(crate: str) -> list[Module]:
-    """The modules of definitions of a crate."""
-    found = []
-    for path in files(crate, "specs/**/*.antt"):
-        head = re.match(r"(?:--.*\n)*", path.read_text())
-        lines = [line.removeprefix("--").strip() for line in (head[0] if head else "").splitlines()]
-        if path.name != "Lib.antt":
-            found.append(Module(crate, path.stem, " ".join(lines)))
-    return found

@@ -57,6 +57,9 @@ def test_names_in_dialogs(page: Page, opener: str) -> None:
     nodes = page.driver.execute_cdp_cmd("Accessibility.getFullAXTree", {})["nodes"]
     dialogs = [it["name"]["value"] for it in nodes if it["role"]["value"] == "dialog"]
     assert len(dialogs) == 1 and dialogs[0].strip()
+    # What one would type or press first isn't "Close", but where the content is made later and is only to be read.
+    is_inside = page.run("return Boolean(document.activeElement.closest('.dialog-body'))")
+    assert is_inside == (opener not in ("#seal", "#cite-open"))
     page.press(Keys.ESCAPE)
     page.until(lambda: not page.all("dialog"), "the dialog's end")
     assert page.run("return `#${document.activeElement.id}`;") == opener
@@ -186,7 +189,7 @@ def test_a_study_by_keyboard(page: Page) -> None:
     # Catches: a table that can't be loaded without a mouse, or a study that can't be changed, kept, exported or undone.
     tab_to(page, "#paste")
     page.press(Keys.ENTER)
-    tab_to(page, "#paste-text")
+    assert page.run("return document.activeElement.id") == "paste-text"
     page.run("document.activeElement.value = arguments[0];", inputs.PRINTED.replace("|", "\t"))
     for place in ["#paste-take", "#table-take"]:
         tab_to(page, place)

@@ -176,7 +176,8 @@ def test_no_cell_is_a_formula(page: Page) -> None:
     page.until(lambda: page.text("#export-words"), "word of the copy")
     page.press(Keys.ESCAPE)
     page.click("#paste")
-    page.at("#paste-text").send_keys(Keys.CONTROL, "v")
+    # What is pasted elsewhere in the dialog goes into its field.
+    page.at("#paste-dialog .close").send_keys(Keys.CONTROL, "v")
     copied = str(page.at("#paste-text").get_property("value")).splitlines()[1:-1]
     assert [it.split("\t")[1] for it in copied] == ["'=cmd|' /C calc'!A0", "'+1-2", "'-Minus"]
 

@@ -19,7 +19,8 @@ static const char usage[] =
     "  --readers N  The number of readers, from 1 to 4 [default: 1]\n"
     "  --journal N  The most commands that are accepted, from 1 to 1000000 [default: 1000000]\n"
     "\n"
-    "This program was compiled from board.c, and has no serve, which needs threads.\n";
+    "The input is read to its end before the first answer is printed: a program that wants each answer at once calls\n"
+    "the library (docs/EMBEDDING.md). This program was compiled from board.c, and has no serve, which needs threads.\n";
 
 /* An option: its number is from 1 to `most`, and 0 until it is given. */
 struct option {

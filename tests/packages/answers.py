@@ -25,7 +25,7 @@ from tests.shared.boards import weights_of
 from tests.shared.inputs import Call, mutated, of_cases
 from tests.shared.sizes import drawn, seed
 
-# What a package may get wrong is the passing of values, and a landing's numbers show that; the deep gate has the rare
+# What a package may get wrong is the passing of values, and the gate's numbers show that; the deep gate has the rare
 # boards, too. Each commit has others.
 BOARDS = drawn(200, 2_000)
 SCRIPTS = drawn(100, 500)

@@ -23,7 +23,7 @@ SANITIZED, RACED = [*CHANGED, "-fsanitize=address,undefined"], [*CHANGED, "-fsan
 # One in this many inputs is tried under a sanitizer.
 FEW = 20
 T = TypeVar("T")
-LEFT_OUT = pytest.mark.deep("a landing tries a few compilers: a fault that another one makes is found later")
+LEFT_OUT = pytest.mark.deep("the gate tries a few compilers: a fault that another one makes is found later")
 
 
 @dataclass(frozen=True)
@@ -68,7 +68,7 @@ WINDOWS = cross("windows", "x86_64-w64-mingw32-gcc")
 SYSTEMS = [RISCV64, UNOPTIMIZED, AARCH64, WINDOWS, I686, MUSL, GCC, CLANG, CPLUSPLUS]
 SANITIZERS = [c99("clang-sanitized", "clang", SANITIZED), c99("gcc-sanitized", "gcc", SANITIZED)]
 THREADED = c99("gcc-threads", "gcc", RACED)
-# What a landing tries: the usual compiler, 32 bits, undefined behaviour, and two others, drawn by the commit.
+# What the gate tries: the usual compiler, 32 bits, undefined behaviour, and two others, drawn by the commit.
 EACH = [GCC, I686, SANITIZERS[0]]
 DRAWN = Random(seed()).sample([it for it in [*SYSTEMS, *SANITIZERS, THREADED] if it not in EACH], 2)
 

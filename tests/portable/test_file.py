@@ -20,7 +20,7 @@ def test_is_made_of_what_is_proved(name: str) -> None:
         pytest.fail(f"{name} isn't what is proved. Other tools than those that made it:\n{other or 'none'}")
 
 
-@pytest.mark.deep("a landing compares the file with the committed one, which was made elsewhere")
+@pytest.mark.deep("the gate compares the file with the committed one, which was made elsewhere")
 def test_another_folder(tmp_path: Path) -> None:
     # Catches: bytes that depend on the folder, or on the moment, of a build.
     copied = shutil.ignore_patterns(".git", "out", "must-fail", "proofs")

@@ -30,6 +30,7 @@ from tests.promises.promised import HERE, broken, found, listed_cases, own_cases
 from tests.shared.commands import TOP, Words, ended, printed
 from tests.shared.kept import Kept
 from tests.shared.libraries import C_FILE, STRICT, TEXTS, native
+from tests.shared.statuses import faults
 
 OWN, LISTED = own_cases(), listed_cases()
 NAMES = [it.name for it in [*OWN, *LISTED]]
@@ -118,6 +119,12 @@ def test_device(name: str, program: Path) -> None:
     made = ran_by(program, given)
     assert [made.printed, made.reason, made.status] == wanted
     assert made == answer(given.words, given.given, given.output == "taken")
+
+
+def test_statuses(program: Path) -> None:
+    # Catches: another end than that of all commands where nothing can be printed or read.
+    found = faults([str(program), "replay"], (TOP / "examples" / "three-chairs.csv").read_bytes())
+    assert not any(found.values()), found
 
 
 @pytest.mark.parametrize("words", [["--help"], ["-h"], ["help"], ["replay", "--help"], ["trace", "-h"]])

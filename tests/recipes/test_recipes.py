@@ -1,5 +1,6 @@
 """The recipes of docs/EMBEDDING.md, STUDIES.md and VALIDATION.md, compared with the output below them; the records of
-docs/FORMATS.md, "Why was my record refused?", with what it says; and README.md's commands for a clone.
+docs/FORMATS.md, "Why was my record refused?", and those of records.txt, with what they say; README.md's commands for a
+clone, and its numbers.
 
 The recipes of a document run one after another in a copy of what they use, with the program as ./board and a python3
 that has pandas and matplotlib."""
@@ -17,9 +18,8 @@ import pytest
 from tests.release.outside import path_without
 from tests.shared.commands import TOP, ended, printed, user_environment
 
-BLOCK = re.compile(r"^```(sh|r)\n(.*?)^```\n(?:\n```text\n(.*?)^```$)?", re.MULTILINE | re.DOTALL)
+BLOCK = re.compile(r"^```sh\n(.*?)^```\n(?:\n```text\n(.*?)^```$)?", re.MULTILINE | re.DOTALL)
 SECTION = re.compile(r"^### ([^\n]*)\n(.*?)(?=^##|\Z)", re.MULTILINE | re.DOTALL)
-WORDS = {"sh": ["bash", "-eu", "-o", "pipefail", "-c"], "r": ["Rscript", "-e"]}
 USED = ["bindings/python/commands", "bindings/python/src", "board.html", "docs", "examples", "portable", "tests/cases"]
 SECONDS = 300
 # The C file takes some ten seconds to compile, so this compiler takes the library that the commands have made of it.
@@ -42,10 +42,9 @@ AROUND = {
 
 @dataclass(frozen=True)
 class Recipe:
-    """A block that can be pasted: where it stands, its language, its code, and what it must print."""
+    """A block that can be pasted: where it stands, its code, and what it must print."""
 
     name: str
-    language: str
     code: str
     wanted: str
 
@@ -59,14 +58,16 @@ def recipes() -> list[Recipe]:
         text = (TOP / "docs" / name).read_text()
         for block in BLOCK.finditer(text):
             line = text.count("\n", 0, block.start()) + 1
-            found.append(Recipe(f"{name} line {line}", block[1], block[2], block[3] or ""))
+            found.append(Recipe(f"{name} line {line}", block[1], block[2] or ""))
     return found
 
 
 def records() -> list[tuple[str, str, str]]:
-    """The records of docs/FORMATS.md, "Why was my record refused?": the heading, the record, and what it gives."""
-    sections = dict(SECTION.findall((TOP / "docs" / "FORMATS.md").read_text()))
-    return [(heading, *it) for heading in AROUND for it in [*said(sections[heading]), *rows(sections[heading])]]
+    """The records of docs/FORMATS.md, "Why was my record refused?", and more: the heading, the record, and what it
+    gives."""
+    texts = [TOP / "docs" / "FORMATS.md", Path(__file__).with_name("records.txt")]
+    sections = [it for path in texts for it in SECTION.findall(path.read_text()) if it[0] in AROUND]
+    return [(heading, *it) for heading, text in sections for it in [*said(text), *rows(text)]]
 
 
 def said(text: str) -> list[tuple[str, str]]:
@@ -120,7 +121,7 @@ def room(program: Path, tmp_path_factory: pytest.TempPathFactory) -> Room:
 @pytest.mark.parametrize("recipe", recipes(), ids=str)
 def test_recipe(room: Room, recipe: Recipe) -> None:
     # Catches: a command of a document that fails, or that prints something else than the document says.
-    words = [*WORDS[recipe.language], recipe.code]
+    words = ["bash", "-eu", "-o", "pipefail", "-c", recipe.code]
     done = subprocess.run(
         words,
         cwd=room.folder,
@@ -141,6 +142,14 @@ def test_record(program: Path, heading: str, row: str, wanted: str) -> None:
     before, after = (it.encode() for it in AROUND[heading])
     done = ended([str(program), "replay"], before + text + after)
     assert done.output.decode().splitlines()[-1] == wanted
+
+
+def test_numbers_of_the_example(program: Path) -> None:
+    # Catches: a sentence of README.md below its example that gives chair 1 another fraction than the program does.
+    [sentence] = re.findall(r"^This reading is .*?\n\n", (TOP / "README.md").read_text(), re.MULTILINE | re.DOTALL)
+    lines = printed([str(program), "replay"], (TOP / "examples" / "three-chairs.csv").read_bytes()).decode()
+    [chair] = re.findall("^chair,1,.*$", lines, re.MULTILINE)
+    assert re.findall(r"\d+/\d+", sentence) == re.findall(r"\d+/\d+", chair)
 
 
 def test_clone(program: Path, tmp_path: Path) -> None:

@@ -55,7 +55,7 @@ PLAIN = Way("plain", drawn(1_000, 5_000), drawn(20_000, 100_000))
 SANITIZERS = Way("sanitizers", 400, 4_000, SANITIZED)
 UNDER_VALGRIND = Way("valgrind", 40, 400, before=[*VALGRIND, *LEAKS])
 HELGRIND = Way("helgrind", 0, 400, before=[*VALGRIND, "--tool=helgrind"])
-LEFT_OUT = pytest.mark.deep("a landing has the sanitizers, and memory.c, which counts what is kept: races are left out")
+LEFT_OUT = pytest.mark.deep("the gate has the sanitizers, and memory.c, which counts what is kept: races are left out")
 WATCHED = [SANITIZERS, pytest.param(UNDER_VALGRIND, marks=LEFT_OUT)]
 WAYS = [PLAIN, *WATCHED]
 

@@ -43,7 +43,7 @@ def boards(chance: Random) -> Input:
     return Input(styled(chance, [["member", "votes"], *members, ["script"], *seats, *read, *changed, *read[:2]]))
 
 
-# The kinds of inputs, and how many of each a landing draws.
+# The kinds of inputs, and how many of each the gate draws.
 KINDS: dict[str, tuple[Callable[[Random], Input], int]] = {
     "boards": (boards, 24),
     "scripts": (scripts, 24),

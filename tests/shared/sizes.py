@@ -1,8 +1,8 @@
 """How much is tested, and what random inputs are made from. It is a plugin of pytest, too.
 
-A landing tests less than the deep gate, which sets DEEP: `drawn` says how many inputs a test takes in each, and a test
-with the marker `deep` runs in the deep gate alone. Its argument says what the landing does without it. Random inputs
-are made from the commit, so that each landing tries others; SEED has another number in its place, to try one again."""
+Before a change is merged, less is tested than before a release, for which `make deep` sets DEEP. `drawn` says how many
+inputs a test takes in each case. A test with the marker `deep` runs only before a release; the marker's argument says
+why it may. Random inputs are made from the commit, so that each commit tries others. SEED=N tries those of N again."""
 from __future__ import annotations
 
 import os
@@ -19,9 +19,9 @@ TOP = Path(__file__).resolve().parents[2]
 IS_DEEP = bool(os.environ.get("DEEP"))
 
 
-def drawn(landing: int, deep: int) -> int:
+def drawn(merge: int, deep: int) -> int:
     """How many inputs a test takes."""
-    return deep if IS_DEEP else landing
+    return deep if IS_DEEP else merge
 
 
 @cache
@@ -35,11 +35,11 @@ def seed() -> int:
 
 
 def pytest_configure(config: pytest.Config) -> None:
-    config.addinivalue_line("markers", "deep(why): runs in the deep gate alone, for this reason")
+    config.addinivalue_line("markers", "deep(why): runs only before a release, for this reason")
 
 
 def pytest_report_header() -> str:
-    return f"tests of {'the deep gate' if IS_DEEP else 'a landing'}, SEED={seed()}"
+    return f"tests before a {'release' if IS_DEEP else 'merge'}, SEED={seed()}"
 
 
 def pytest_collection_modifyitems(config: pytest.Config, items: list[pytest.Item]) -> None:

@@ -20,7 +20,7 @@ STRICT = ["-std=c11", "-Wall", "-Wextra", "-Werror"]
 HEAP_CALLS = 10_000
 
 
-@pytest.mark.deep("a landing compares the module with that of the committed page, which was made elsewhere")
+@pytest.mark.deep("the gate compares the module with that of the committed page, which was made elsewhere")
 def test_another_folder(tmp_path: Path) -> None:
     # Catches: bytes that depend on the folder, or on the moment, of a build.
     for source in SOURCES:

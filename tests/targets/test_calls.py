@@ -18,7 +18,7 @@ from tests.targets.modules import MODULE, WIDE, calling, on_register
 
 EXAMPLE = (TOP / "examples" / "three-chairs.csv").read_bytes()
 # What the calls answer is proved, and tests/portable also compares board.c, which is made of the same modules, with the
-# program. So a landing draws few; a fault of the compiler for WebAssembly that rare inputs show is left to the deep
+# program. So the gate draws few; a fault of the compiler for WebAssembly that rare inputs show is left to the deep
 # gate.
 INPUTS = drawn(500, 5_000)
 BOARDS = drawn(300, 1_500)

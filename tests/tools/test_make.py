@@ -20,10 +20,13 @@ class Copy:
         self.top = top
         for name in ("Makefile", "crates.txt", "HANDLES"):
             shutil.copy(TOP / name, top)
-        shutil.copytree(TOP / "tools", top / "tools")
+        for name in ("tools", "portable"):
+            shutil.copytree(TOP / name, top / name, ignore=shutil.ignore_patterns("out"))
         shutil.copytree(TOP / "crates", top / "crates", ignore=shutil.ignore_patterns("out"))
         self.goals = ["board", "prove", *(str(top / "out" / f"{it}.bc") for it in MODULES)]
-        self.make("--touch", *self.goals)
+        (top / "out").mkdir()
+        for name in ("kit", "board", "proved", *(f"{it}.bc" for it in MODULES)):
+            (top / "out" / name).touch()
 
     def make(self, *words: str) -> str:
         return ran_in(self.top, ["make", *words])
@@ -43,6 +46,12 @@ def copy(tmp_path_factory: pytest.TempPathFactory) -> Copy:
 def test_nothing_is_proved_twice(copy: Copy) -> None:
     # Catches: a target that is never up to date.
     assert copy.proved() == ([], set())
+
+
+def test_no_goal_proves_nothing(copy: Copy) -> None:
+    # Catches: a stranger's first command that begins an hour of proofs because rt is there.
+    said = copy.make("--dry-run")
+    assert "-DBOARD_MAIN portable/board.c" in said and "tools/prove" not in said
 
 
 def test_documents_and_edits_prove_nothing(copy: Copy) -> None:

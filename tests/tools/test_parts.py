@@ -11,8 +11,8 @@ import pytest
 from tests.shared.commands import TOP
 
 ROWS = [it.split(":") for it in (TOP / "tools" / "packages.txt").read_text().splitlines() if not it.startswith("#")]
-DEEP = {word for parts, words in ROWS if parts.startswith("deep ") for word in words.split()}
-PACKAGES = sorted({word.rpartition("=")[2] for _, words in ROWS for word in words.split() if word not in DEEP})
+LANDING = [words.split() for parts, words in ROWS if not parts.startswith("deep ")]
+PACKAGES = sorted({word.rpartition("=")[2] for words in LANDING for word in words})
 # The system's programs that the scripts call. A stub may stand for one.
 SYSTEM = "awk bash cat cp dirname grep head mkdir sort tail tee tr".split()
 
@@ -65,7 +65,7 @@ def stubbed(tmp_path: Path) -> Stubbed:
 def test_a_part_passes_by_its_last_line(stubbed: Stubbed) -> None:
     # Catches: a part that fails though it passed, and output that isn't kept.
     assert stubbed.judged("one: passed", "1 passed, 0 failed") == (0, "one: passed\n1 passed, 0 failed\n")
-    assert (stubbed.top / "out" / "said" / "compilers").read_text() == "one: passed\n1 passed, 0 failed\n"
+    assert (stubbed.top / "out" / "results" / "compilers").read_text() == "one: passed\n1 passed, 0 failed\n"
 
 
 @pytest.mark.parametrize("printed", ["0 passed, 0 failed", "", "one: passed", "1 passed, 0 failed\nand more"])
@@ -91,12 +91,19 @@ def test_a_part_of_node_is_counted(stubbed: Stubbed) -> None:
         assert stubbed.judged(*wrong) == (1, "\n".join([*wrong, "5 passed, 2 failed\n"]))
 
 
-def test_a_hidden_package_fails_in_the_gate_alone(stubbed: Stubbed) -> None:
-    # Catches: a part of the gate that leaves out what it has no tool for, and is green.
+def test_a_part_without_its_packages_fails(stubbed: Stubbed) -> None:
+    # Catches: a part that leaves out what it has no tool for, and is green, or that says so a thousand times.
     stubbed.hide("wine64", "g++")
-    needs = "tools/install: Debian's g++ isn't here\ntools/install: Debian's wine64 isn't here\n"
-    assert stubbed.judged("5 passed, 0 failed", GATE="1") == (1, needs + "0 passed, 1 failed\n")
-    assert stubbed.judged("5 passed, 0 failed") == (0, "5 passed, 0 failed\n")
+    needs = "tools/install: missing packages of Debian: g++ wine64 (tools/install compilers installs them)\n"
+    assert stubbed.judged("5 passed, 0 failed") == (1, needs + "0 passed, 1 failed\n")
+
+
+def test_the_deep_gate_asks_for_more(stubbed: Stubbed) -> None:
+    # Catches: a part of the deep gate that leaves out what only it needs, and a gate that asks for it.
+    stubbed.hide("wine64")
+    stubbed.stub(tests="echo 1 passed, 0 failed")
+    assert stubbed.ran("part", "python", "tests")[0] == 0
+    assert stubbed.ran("part", "python", "tests", DEEP="1")[0] == 1
 
 
 def test_each_part_has_its_packages_listed() -> None:
@@ -108,7 +115,6 @@ def test_each_part_has_its_packages_listed() -> None:
     assert len(parts) == len({*parts}) > 20
     assert {*parts} - listed == {"prove"}
     assert {*groups["CHECKS"].split()} <= {*parts}
-    assert re.findall(r"^(\w+): export GATE := 1$", text, re.MULTILINE) == ["gate", "deep"]
 
 
 def test_parts_are_added_up(stubbed: Stubbed) -> None:
@@ -138,7 +144,7 @@ def test_each_missing_package_is_named(stubbed: Stubbed) -> None:
     # Catches: a missing package of which nobody hears.
     stubbed.hide(*PACKAGES)
     status, said = stubbed.ran("install", "--check")
-    assert sorted(said.splitlines()) == [f"tools/install: Debian's {it} isn't here" for it in PACKAGES]
+    assert said == f"tools/install: missing packages of Debian: {' '.join(PACKAGES)} (tools/install installs them)\n"
     assert status == 1
 
 
@@ -151,9 +157,10 @@ def test_a_package_is_missed_by_the_parts_that_need_it(stubbed: Stubbed) -> None
 
 @pytest.mark.parametrize("part", ["deep", "second"])
 def test_the_deep_gate_alone_misses_coq(stubbed: Stubbed, part: str) -> None:
-    # Catches: a landing that installs, or fails without, a large package that only the deep gate needs.
+    # Catches: a gate that installs, or fails without, a large package that only the deep gate needs.
     assert stubbed.ran("install", "--check") == (0, "")
-    assert stubbed.ran("install", "--check", part) == (1, "tools/install: Debian's coq isn't here\n")
+    why = f"tools/install: missing packages of Debian: coq (tools/install {part} installs them)\n"
+    assert stubbed.ran("install", "--check", part) == (1, why)
 
 
 def test_a_command_stands_for_its_package(stubbed: Stubbed) -> None:
@@ -164,8 +171,8 @@ def test_a_command_stands_for_its_package(stubbed: Stubbed) -> None:
     assert stubbed.ran("install", "--check", "targets") == (0, "")
 
 
-def test_one_line_says_what_was_installed_or_why_not(stubbed: Stubbed) -> None:
-    # Catches: an installation that fails, and ends as if it hadn't.
+def test_it_says_what_it_installs_or_why_not(stubbed: Stubbed) -> None:
+    # Catches: an installation that nobody was asked for, or that fails and ends as if it hadn't.
     (stubbed.top / "installed").rename(stubbed.top / "all")
     stubbed.hide("chromium")
     why = "tools/install: chromium can't be installed: "
@@ -173,13 +180,15 @@ def test_one_line_says_what_was_installed_or_why_not(stubbed: Stubbed) -> None:
     stubbed.stub(timeout='shift; exec "$@"', id="echo 1000", apt_get="false")
     assert stubbed.ran("install") == (1, f"{why}it needs root: apt-get install --no-install-recommends chromium\n")
     stubbed.stub(id="echo 0")
-    for line, said in [
-        ("false", "apt-get update didn't end well; is there a network?"),
-        ('[[ "$*" != *install* ]]', "apt-get install didn't end well; is there a network?"),
-        ("exit 0", "apt-get install left them out"),
+    plan = "tools/install: installs chromium, and what they need\n"
+    for line, planned, said in [
+        ("false", "", "apt-get update didn't end well; is there a network?"),
+        ('[[ "$*" != *install* ]]', plan, "apt-get install didn't end well; is there a network?"),
+        ("exit 0", plan, "apt-get install left them out"),
     ]:
         stubbed.stub(apt_get=line)
-        assert stubbed.ran("install") == (1, f"{why}{said}\n")
-    stubbed.stub(apt_get=f"cp {stubbed.top}/all {stubbed.top}/installed")
-    assert stubbed.ran("install") == (0, "tools/install: installed chromium\n")
+        assert stubbed.ran("install") == (1, f"{planned}{why}{said}\n")
+    size = "After this operation, 9 MB of additional disk space will be used."
+    stubbed.stub(apt_get=f'[[ "$*" == *--assume-no* ]] && echo "{size}" && exit 1; cp {stubbed.top}/{{all,installed}}')
+    assert stubbed.ran("install") == (0, f"{plan}{size}\n")
     assert stubbed.ran("install") == (0, "")

@@ -22,6 +22,7 @@ OF_BOARD = [
     "crates/half_sums/specs/",
     "crates/half_sums/proofs/",
 ]
+CHECKS = [f"bindings/{it}/check" for it in ("javascript", "python", "r", "rust")]
 Run = Callable[..., Ended]
 
 
@@ -64,9 +65,50 @@ def test_make(clone: Path, goals: str) -> None:
     assert done.status == 0, done.complaint
 
 
-def test_make_without_a_goal(clone: Path) -> None:
+def test_make_board(clone: Path) -> None:
     # Catches: a failure that doesn't name what is missing.
-    assert b"rt, which proves the crates, is not on the PATH" in ran(clone, "make").complaint
+    assert b"rt, which proves the crates, is not on the PATH" in ran(clone, "make", "board").complaint
+
+
+def goals(top: Path) -> list[str]:
+    """All goals that `make help` lists."""
+    return [it.split()[1] for it in ran(top, "make", "help").output.decode().splitlines()]
+
+
+@pytest.mark.parametrize("words, status", [("--dry-run", 0), ("--question --keep-going", 1), ("--touch", 2)])
+def test_make_that_only_asks(clone: Path, tmp_path: Path, words: str, status: int) -> None:
+    # Catches: a goal that installs, removes, makes or marks as made anything when make is asked what it would do.
+    script(tmp_path / "bin" / "dpkg-query", ":")
+    script(tmp_path / "bin" / "apt-get", f'echo "$@" >"{tmp_path}/installed"')
+    (clone / "out" / "results").mkdir(parents=True, exist_ok=True)
+    (clone / "out" / "results" / "docs").write_text("1 passed, 0 failed\n")
+    before = {it: it.stat().st_mtime_ns for top in (clone, tmp_path) for it in top.rglob("*")}
+    for goal in goals(clone):
+        done = ran(clone, "make", *words.split(), goal, PATH=f"{tmp_path / 'bin'}:{PATH}")
+        assert done.status == status or (status == 1 and goal == "portable"), (goal, done)
+    assert {it: it.stat().st_mtime_ns for top in (clone, tmp_path) for it in top.rglob("*")} == before
+
+
+def test_what_is_tested(tmp_path: Path) -> None:
+    # Catches: a runner of tests that looks for what only the toolchain makes, or takes another program than its own.
+    chosen = f'top={tmp_path}; . "{TOP}/tools/built"; echo "$BOARD $MODULE"'
+    found = []
+    for name in ("", "portable/out/board", "page/out/board.wasm", "out/board", "portable/wasm/out/board.wasm"):
+        (tmp_path / name).parent.mkdir(parents=True, exist_ok=True)
+        (tmp_path / name).touch()
+        said = ran(tmp_path, "bash", "-c", chosen, BOARD="", MODULE="").output.decode()
+        found.append(said.replace(f"{tmp_path}/", "").split())
+    of_c, proved = ["portable/out/board", "page/out/board.wasm"], ["out/board", "portable/wasm/out/board.wasm"]
+    assert found == [of_c, of_c, of_c, ["out/board", "page/out/board.wasm"], proved]
+    given = ran(tmp_path, "bash", "-c", chosen, BOARD="mine", MODULE="too").output
+    assert given == b"mine too\n"
+
+
+@pytest.mark.parametrize("runner", ["tests/run", "page/units/run", "page/tests/run", *CHECKS])
+def test_runners_choose_alike(runner: str) -> None:
+    # Catches: a runner with a choice of its own.
+    text = (TOP / runner).read_text()
+    assert '\n. "$top/tools/built"' in text and "BOARD:-" not in text and "MODULE:-" not in text
 
 
 def test_install(clone: Path, tmp_path: Path) -> None:
@@ -87,9 +129,32 @@ def test_install(clone: Path, tmp_path: Path) -> None:
     example = str(TOP / "examples" / "embed" / "three_chairs.c")
     made = ran(place, "cc", example, *flags, f"-Wl,-rpath,{lib}", "-o", str(tmp_path / "three"))
     assert ran(tmp_path, "./three").output.startswith(b"51 votes win, 3 of 8 coalitions\n"), made.complaint
-    assert b"the exact voting power" in (place / "share" / "man" / "man1" / "board.1").read_bytes()
+    pages = {it.name for it in (place / "share" / "man" / "man1").iterdir()}
+    assert pages == {"board.1", "board-replay.1", "board-trace.1"}
     ran(clone, "make", "uninstall", *to)
     assert not [it for it in place.rglob("*") if not it.is_dir()]
+
+
+def test_install_where_others_are(clone: Path, tmp_path: Path) -> None:
+    # Catches: an upgrade that a program which runs breaks off, one that writes through a link, a file of another that
+    # is removed, and a part of an installation where something is missing.
+    to = [f"PREFIX={tmp_path / 'it'}", "CFLAGS=-O0"]
+    others = [tmp_path / "it" / name for name in ("lib/libboard.py", "share/man/man1/board-game.1", "bin/other")]
+    for other in others:
+        other.parent.mkdir(parents=True)
+        other.write_text("mine")
+    program = tmp_path / "it" / "bin" / "board"
+    program.symlink_to("other")
+    broken = ran(clone, "make", "install", *to, "CFLAGS=-DBOARD_MAIN -include absent.h")
+    assert broken.status and program.is_symlink() and not (tmp_path / "it" / "include").exists()
+    assert (done := ran(clone, "make", "install", *to)).status == 0, done.complaint
+    with subprocess.Popen([program, "replay"], stdin=subprocess.PIPE, stdout=subprocess.PIPE) as running:
+        again = ran(clone, "make", "install", *to)
+        output, _ = running.communicate(EXAMPLE)
+    assert again.status == 0 and output.endswith(b"\nchair,3,1,1,1/4,1/5,1/3,1/5\n"), again.complaint
+    ran(clone, "make", "uninstall", *to)
+    left = [it for it in (tmp_path / "it").rglob("*") if not it.is_dir()]
+    assert sorted(left) == sorted(others) and {it.read_text() for it in left} == {"mine"}
 
 
 @pytest.fixture

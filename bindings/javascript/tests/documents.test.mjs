@@ -19,7 +19,7 @@ const runs = {
 const readme = readFileSync(join(FOLDER, "README.md"), "utf8");
 const blocks = [...readme.matchAll(/```(js|cjs|sh)\n([^]*?)```\n\n```text\n([^]*?)```\n/g)];
 
-test("README.md has blocks", () => equal(blocks.length >= 8, true));
+test("README.md has blocks", () => equal(blocks.length, 6));
 
 for (const [, language, code, wanted] of blocks) {
   test(`README.md: ${code.split("\n")[0]}`, () => {

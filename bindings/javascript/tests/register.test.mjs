@@ -459,7 +459,7 @@ test("a text in pieces is the same wherever it is cut", () => {
   ];
   const turn = records.map(([text]) => text).join("");
   const wanted = records.map(([, record]) => record);
-  // In Node a landing cuts at each third place, so in each record, and not beside each of their ends.
+  // In Node the gate cuts at each third place, so in each record, and not beside each of their ends.
   const step = globalThis.process && !process.env.DEEP ? 3 : 1;
   for (let shift = 1; shift <= turn.length + 3; shift += step) {
     const begun = "\n".repeat(4_194_304 - 20 - turn.length - shift);

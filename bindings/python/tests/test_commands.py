@@ -13,9 +13,10 @@ from pathlib import Path
 
 import pytest
 
+from tests.shared.statuses import directed, faults
 from voting_board import MAJORITIES, indices, replay_text
 from voting_board.amounts import BadStudy
-from voting_board.files import csv_text, place_of, plain_cell, write_files
+from voting_board.files import HalfWritten, csv_text, place_of, plain_cell, write_files
 from voting_board.study_files import START, empty_page
 
 EXAMPLES = Path(__file__).resolve().parents[3] / "examples"
@@ -56,6 +57,27 @@ def test_help(command: str, word: str) -> None:
         code = [sys.executable, "-m", f"voting_board.{command}_command", word]
         done = subprocess.run(code, stdout=full, stderr=subprocess.PIPE)
     assert (done.returncode, done.stderr) == (0, b"")
+
+
+@pytest.mark.parametrize(
+    "command, given, words",
+    [("study", "members.csv", ["out"]), ("recount", "three-chairs.csv", []), ("figures", "three-chairs.csv", ["out"])],
+)
+def test_statuses(command: str, given: str, words: list[str]) -> None:
+    # Catches: status 0 where nothing was read or printed, a message that isn't true, and a traceback.
+    code = [sys.executable, "-m", f"voting_board.{command}_command", "-", *words]
+    found = faults(code, (EXAMPLES / given).read_bytes())
+    # board-figures prints nothing.
+    outputs = "standard output" if command == "figures" else "-"
+    wrong = {name: it for name, it in found.items() if it and not name.startswith(outputs)}
+    assert not wrong
+
+
+@pytest.mark.parametrize("command", ["study", "figures", "recount"])
+def test_wrong_command_line(command: str) -> None:
+    # Catches: a command line that is rejected with status 0 where standard output can't be written.
+    code = [sys.executable, "-m", f"voting_board.{command}_command", "--nonsense"]
+    assert directed(code, redirection=">/dev/full").status == 2
 
 
 def test_no_terminal_sequence(tmp_path: Path) -> None:
@@ -233,6 +255,10 @@ def test_files_take_their_places_together(tmp_path: Path, monkeypatch: pytest.Mo
     with pytest.raises(TypeError):
         write_files({one: b"after", other: "text"})  # type: ignore[dict-item]
     assert {it.name: it.read_text() for it in tmp_path.iterdir()} == {"one": "before", foreign.name: "foreign"}
+    (tmp_path / "folder").mkdir()
+    with pytest.raises(HalfWritten, match="folder: Is a directory; only these were written: other"):
+        write_files({other: b"first", tmp_path / "folder": b"second"})
+    assert other.read_text() == "first" and len([*tmp_path.glob(".*.part")]) == 1
     (tmp_path / "link").symlink_to(one)
     write_files({place_of(tmp_path / "link", "before"): b"after"})
     assert (tmp_path / "link").is_symlink() and one.read_text() == "after"

@@ -7,6 +7,7 @@ import re
 import subprocess
 import sys
 from pathlib import Path
+from types import FunctionType
 
 import pytest
 
@@ -38,6 +39,12 @@ def test_many_boards_on_a_cluster(tmp_path: Path) -> None:
     subprocess.run([sys.executable, str(tmp_path / "sample.py")], cwd=tmp_path, check=True, timeout=300)
 
 
-def test_readme_names_what_is_public() -> None:
-    text = README.read_text()
-    assert not [name for name in voting_board.__all__ if f"`{name}" not in text and name != "__version__"]
+@pytest.mark.parametrize("name", voting_board.__all__)
+def test_help(name: str) -> None:
+    # Catches: a public call, class or method without help of its own: the README lists none of them.
+    public = getattr(voting_board, name)
+    if not isinstance(public, (type, FunctionType)):
+        return
+    methods = {f"{name}.{it}": part for it, part in vars(public).items() if isinstance(part, FunctionType)}
+    shown = {it: part for it, part in methods.items() if not it.split(".")[1].startswith("_")}
+    assert not [it for it, part in {name: public, **shown}.items() if not (part.__doc__ or "").strip()]

@@ -36,7 +36,7 @@ def test_a_million_commands(full: Register) -> None:
     other.publish()
 
 
-@pytest.mark.deep("a landing fills the journal by a text alone")
+@pytest.mark.deep("the gate fills the journal by a text alone")
 def test_a_list_of_a_million(full: Register) -> None:
     journal = full.journal
     assert len(journal) == MILLION and journal[-1] == Command("close", chair=1)
@@ -47,7 +47,7 @@ def test_a_list_of_a_million(full: Register) -> None:
     assert other.submit(journal) == MILLION
 
 
-@pytest.mark.deep("a landing cuts shorter texts into pieces, and empty lines and long records at the real limit")
+@pytest.mark.deep("the gate cuts shorter texts into pieces, and empty lines and long records at the real limit")
 def test_a_script_of_a_million(full: Register) -> None:
     text = full.script()
     assert len(text) > INPUT_BYTES

@@ -2,6 +2,7 @@
 from __future__ import annotations
 
 import os
+import platform
 import re
 import shutil
 import subprocess
@@ -20,6 +21,10 @@ HERE = Path(__file__).resolve().parent
 TOP = HERE.parents[2]
 PORTABLE = TOP / "portable"
 WHEEL = f"voting_board-{version}-py3-none-"
+# The platforms of the wheels, of which the first is this system's.
+OWN = f"manylinux_2_17_{platform.machine()}"
+OTHERS = pytest.mark.deep("the gate makes no wheel of another system")
+LINUX = [OWN, pytest.param("manylinux_2_17_aarch64", marks=OTHERS)]
 INFO = f"voting_board-{version}.dist-info"
 DONE = f"{version} 3: 3 1 1\n"
 
@@ -70,50 +75,43 @@ def test_source_package(source: Path) -> None:
     assert (source / "src/voting_board/py.typed").exists() and (source / "setup.py").exists()
 
 
-@pytest.mark.parametrize(
-    "platform, library",
-    [
-        ("manylinux_2_17_x86_64", "libboard.so"),
-        ("manylinux_2_17_aarch64", "libboard.so"),
-        ("win_amd64", "board.dll"),
-    ],
-)
-def test_wheels(packages: Path, platform: str, library: str) -> None:
-    with ZipFile(packages / f"{WHEEL}{platform}.whl") as wheel:
+@pytest.mark.parametrize("system", [*LINUX, pytest.param("win_amd64", marks=OTHERS)])
+def test_wheels(packages: Path, system: str) -> None:
+    library = "board.dll" if system == "win_amd64" else "libboard.so"
+    with ZipFile(packages / f"{WHEEL}{system}.whl") as wheel:
         names = {it for it in wheel.namelist() if it.startswith("voting_board/")}
         about, tags = (wheel.read(f"{INFO}/{name}").decode() for name in ("METADATA", "WHEEL"))
         infos = [it for it in wheel.infolist() if not it.filename.endswith("RECORD")]
     modules = {f"voting_board/{it.name}" for it in (HERE.parent / "src/voting_board").glob("*.py")}
     assert names == modules | {f"voting_board/{it}" for it in ("py.typed", "board.html", library)}
-    assert f"Tag: py3-none-{platform}\n" in tags and "Root-Is-Purelib: false\n" in tags
+    assert f"Tag: py3-none-{system}\n" in tags and "Root-Is-Purelib: false\n" in tags
     assert {it.external_attr >> 16 & 0o777 for it in infos} == {0o644} and len({it.date_time for it in infos}) == 1
     for line in (f"Version: {version}", "Requires-Python: >=3.9", "Provides-Extra: plot", "Name: voting-board"):
         assert f"\n{line}\n" in about
     assert about.endswith((HERE.parent / "README.md").read_text().rstrip("\n") + "\n") and "License" not in about
 
 
-@pytest.mark.deep("it compiles board.c again: a landing doesn't see what shows of a wheel's making")
+@pytest.mark.deep("it compiles board.c again: the gate doesn't see what shows of a wheel's making")
 def test_the_same_bytes(packages: Path, source: Path) -> None:
     # Catches: a wheel in which the folder, the mask, the zone or the time of its making shows.
-    platform = "manylinux_2_17_x86_64"
-    wheel = built(source, f"-C--build-option=--plat-name={platform}")
+    wheel = built(source, f"-C--build-option=--plat-name={OWN}")
     assert wheel.read_bytes() == (packages / wheel.name).read_bytes()
 
 
-def test_glibc(packages: Path, tmp_path: Path) -> None:
+@pytest.mark.parametrize("system", LINUX)
+def test_glibc(packages: Path, tmp_path: Path, system: str) -> None:
     # Catches: a symbol that manylinux_2_17 doesn't have.
-    for platform, tool in (("x86_64", "objdump"), ("aarch64", "aarch64-linux-gnu-objdump")):
-        library = unpacked(packages / f"{WHEEL}manylinux_2_17_{platform}.whl", tmp_path / platform)
-        needed = re.findall(r"\(GLIBC_([\d.]+)\)", ran(tool, "-T", library))
-        assert needed and max(tuple(map(int, it.split("."))) for it in needed) <= (2, 17)
+    library = unpacked(packages / f"{WHEEL}{system}.whl", tmp_path)
+    needed = re.findall(r"Name: GLIBC_([\d.]+)", ran("readelf", "--version-info", "--wide", library))
+    assert needed and max(tuple(map(int, it.split("."))) for it in needed) <= (2, 17)
 
 
-def test_hardened(packages: Path, tmp_path: Path) -> None:
+@pytest.mark.parametrize("system", LINUX)
+def test_hardened(packages: Path, tmp_path: Path, system: str) -> None:
     # Catches: a library in which what the loader has bound can be overwritten.
-    for platform in ("x86_64", "aarch64"):
-        library = unpacked(packages / f"{WHEEL}manylinux_2_17_{platform}.whl", tmp_path / platform)
-        said = ran("readelf", "--program-headers", "--dynamic", "--wide", library)
-        assert "GNU_RELRO" in said and "BIND_NOW" in said
+    library = unpacked(packages / f"{WHEEL}{system}.whl", tmp_path)
+    said = ran("readelf", "--program-headers", "--dynamic", "--wide", library)
+    assert "GNU_RELRO" in said and "BIND_NOW" in said
 
 
 def unpacked(wheel: Path, folder: Path) -> Path:
@@ -129,11 +127,12 @@ def loading(compiler: str, program: Path, *words: str) -> Path:
     return program
 
 
-def test_x86_64(packages: Path, tmp_path: Path) -> None:
-    library = unpacked(packages / f"{WHEEL}manylinux_2_17_x86_64.whl", tmp_path)
+def test_this_system(packages: Path, tmp_path: Path) -> None:
+    library = unpacked(packages / f"{WHEEL}{OWN}.whl", tmp_path)
     assert ran(loading("cc", tmp_path / "loads", "-ldl"), library) == DONE
 
 
+@OTHERS
 def test_aarch64(packages: Path, tmp_path: Path) -> None:
     library = unpacked(packages / f"{WHEEL}manylinux_2_17_aarch64.whl", tmp_path)
     program = loading("aarch64-linux-gnu-gcc", tmp_path / "loads", "-ldl")
@@ -153,7 +152,7 @@ def wine(tmp_path: Path) -> Iterator[list[str]]:
     subprocess.run([*environment, "/usr/lib/wine/wineserver64", "--kill"], timeout=60)
 
 
-@pytest.mark.deep("wine takes long to start: a landing makes this wheel, and looks at its files")
+@OTHERS
 def test_windows(packages: Path, tmp_path: Path, wine: list[str]) -> None:
     library = unpacked(packages / f"{WHEEL}win_amd64.whl", tmp_path)
     program = loading("x86_64-w64-mingw32-gcc", tmp_path / "loads.exe", "-static")
@@ -174,7 +173,7 @@ def test_a_native_library(source: Path, tmp_path: Path) -> None:
     assert ran(sys.executable, "-c", code, PYTHONPATH=str(tmp_path / "there")) == "(3, 1, 1)\n"
 
 
-@pytest.mark.deep("it compiles board.c again: a landing installs the wheel alone")
+@pytest.mark.deep("it compiles board.c again: the gate installs the wheel alone")
 def test_pip_in_a_clone(tmp_path: Path) -> None:
     # Catches: an installation from a clone that misses the C file.
     clone = tmp_path / "clone"

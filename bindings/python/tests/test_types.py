@@ -12,7 +12,7 @@ import voting_board
 
 HERE = Path(__file__).resolve().parent
 NEWEST = ".".join(map(str, sys.version_info[:2]))
-VERSIONS = ["3.9", pytest.param(NEWEST, marks=pytest.mark.deep("a landing checks what the oldest version takes"))]
+VERSIONS = ["3.9", pytest.param(NEWEST, marks=pytest.mark.deep("the gate checks what the oldest version takes"))]
 
 
 def checked(version: str, *paths: Path) -> str:

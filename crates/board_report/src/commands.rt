@@ -17,7 +17,9 @@ const ABOUT: &str =
 const AFTER_HELP: &str =
     "The input comes on standard input: the record member,votes, a record for each member, the record script, and \
      then the\n\
-     records of the command. For example:\n\
+     records of the command. It is read to its end before the first answer is printed: a program that wants each \
+     answer at\n\
+     once calls the library (docs/EMBEDDING.md). For example:\n\
      \n  \
      printf 'member,votes\\nAAA,3\\nBBB,2\\nscript\\nopen,1\\nmove,AAA,1\\npublish\\nread,1,half\\n' | board \
      replay\n\n\

@@ -1,7 +1,13 @@
 /** Dialogs: each is made when it opens and removed when it closes. */
 import { add, button, h, type Child } from "./dom";
 
-/** Opens a dialog with a heading. It closes by its button, by Escape and by the function that `close` returns. */
+/** What can have the focus first in a dialog. */
+const FIRST = ".dialog-body :is(input, select, textarea, button, summary, a[href]):not(:disabled)";
+
+/**
+ * Opens a dialog with a heading, and with the focus on the first control of its content. It closes by its button, by
+ * Escape and by the function that `content` is given.
+ */
 export function openDialog(
   id: string,
   title: string,
@@ -31,5 +37,6 @@ export function openDialog(
   });
   document.body.append(dialog);
   dialog.showModal();
+  [...dialog.querySelectorAll<HTMLElement>(FIRST)].find((it) => it.getClientRects().length > 0)?.focus();
   return dialog;
 }

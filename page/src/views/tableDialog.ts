@@ -388,6 +388,7 @@ export function openTable(app: App, source: Source): void {
   }, () => grey(false));
   grey(true);
   dialog.classList.add("wide");
+  dialog.querySelector<HTMLElement>(".question.open input, #table-take:not(:disabled)")?.focus();
 }
 
 /** Asks for a table that is pasted as text. One that says more as HTML is read at once. */
@@ -398,7 +399,6 @@ export function openPaste(read: (text: string, name: string) => void): void {
       "textarea",
       {
         id: "paste-text", "aria-label": "Cells from a spreadsheet, a CSV, or a script", spellcheck: "false",
-        autofocus: true,
       },
     );
     const act = (text = area.value) => {

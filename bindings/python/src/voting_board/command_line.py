@@ -8,10 +8,11 @@ import re
 import shlex
 import sys
 from collections.abc import Callable, Iterable, Sequence
+from contextlib import redirect_stdout, suppress
 from pathlib import Path
 
 from .amounts import BadStudy
-from .files import resolved
+from .files import HalfWritten, resolved
 from .names import MAJORITIES
 
 #: What the commands write into a table, the page, and a figure.
@@ -32,28 +33,39 @@ def say(command: str, lines: Iterable[str]) -> None:
         print(printable(f"{command}: {line}"), file=sys.stderr)
 
 
-def arguments(parser: argparse.ArgumentParser) -> argparse.Namespace:
-    """The arguments of a command. Help and the version end it with 0, even where they can't be written."""
+def show(text: str, end: str = "\n") -> None:
+    """Prints a text at once. If it can't be printed, that is a BadStudy."""
     try:
-        try:
-            return parser.parse_args()
-        finally:
-            print(end="", flush=True)
-    except OSError:
+        print(text, end=end, flush=True)
+    except OSError as why:
+        # Python tries to print what is left when it ends.
         os.dup2(os.open(os.devnull, os.O_WRONLY), 1)
-        sys.exit(0)
+        raise BadStudy(f"standard output: {why.strerror}") from None
+
+
+def arguments(parser: argparse.ArgumentParser) -> argparse.Namespace:
+    """The arguments of a command. Help and the version end it with 0, even where they can't be printed."""
+    try:
+        with redirect_stdout(io.StringIO()) as said:
+            return parser.parse_args()
+    except SystemExit:
+        with suppress(BadStudy):
+            show(said.getvalue(), end="")
+        raise
 
 
 def ended(parser: argparse.ArgumentParser, make: Callable[[argparse.Namespace], None]) -> int:
-    """Runs a command, and returns its status: 1 with a message if something is wrong, and then nothing was written."""
+    """Runs a command, and returns its status: 1 if something is wrong, with a message that says which files stand."""
     given, command = arguments(parser), parser.prog
-    if isinstance(sys.stdout, io.TextIOWrapper):
-        sys.stdout.reconfigure(errors="backslashreplace")
     try:
+        if not isinstance(sys.stdout, io.TextIOBase):
+            raise BadStudy("standard output is closed")
+        if isinstance(sys.stdout, io.TextIOWrapper):
+            sys.stdout.reconfigure(errors="backslashreplace")
         make(given)
-        sys.stdout.flush()
-    except BrokenPipeError:
-        os.dup2(os.open(os.devnull, os.O_WRONLY), 1)
+    except HalfWritten as why:
+        say(command, [str(why)])
+        return 1
     except ImportError as why:
         needed = "pip install numpy pandas matplotlib installs what this needs"
         say(command, [f"{why.name or why} isn't here: {needed}", "nothing was written"])
@@ -81,6 +93,8 @@ def read_bytes(name: str) -> bytes:
     """The bytes of a file, or of standard input for -. A pipe or a device is a BadStudy, and so is a large file."""
     if name != "-" and Path(name).exists() and not Path(name).is_file():
         raise BadStudy(f"{name} is no file; - is standard input")
+    if name == "-" and not isinstance(sys.stdin, io.TextIOBase):
+        raise BadStudy("standard input is closed")
     with sys.stdin.buffer if name == "-" else open(name, "rb") as file:
         data = file.read(MOST_BYTES + 1)
     if len(data) > MOST_BYTES:

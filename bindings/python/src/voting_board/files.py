@@ -71,6 +71,21 @@ def check_same(path: Path, data: bytes) -> None:
         raise BadStudy(f"{path} is there already with another script: choose another name, or give --force")
 
 
+class HalfWritten(BadStudy):
+    """A file can't be put in its place, after others were."""
+
+
+def put_in_place(part: Path, place: Path, written: Sequence[Path]) -> None:
+    """Moves a file to its place, after those that were written."""
+    try:
+        os.replace(part, place)
+    except OSError as why:
+        if not written:
+            raise
+        names = ", ".join(it.name for it in written)
+        raise HalfWritten(f"{place}: {why.strerror}; only these were written: {names}") from None
+
+
 def write_files(texts: Mapping[Path, bytes]) -> None:
     """Writes each file beside its place, and moves them there once all are whole."""
     parts = {place: place.with_name(f".{os.urandom(8).hex()}.part") for place in texts}
@@ -83,7 +98,7 @@ def write_files(texts: Mapping[Path, bytes]) -> None:
             if place.exists():
                 shutil.copymode(place, parts[place])
         for place, part in parts.items():
-            os.replace(part, place)
+            put_in_place(part, place, [it for it in parts if parts[it] not in made])
             made.remove(part)
     finally:
         for part in made:

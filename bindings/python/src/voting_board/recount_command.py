@@ -6,7 +6,7 @@ import random
 import sys
 import time
 
-from .command_line import ended, read_bytes
+from .command_line import ended, read_bytes, show
 from .names import VERSION
 from .replays import replay
 
@@ -41,7 +41,7 @@ def make(given: argparse.Namespace) -> None:
     from .recounts import differences_of, drawn_script
 
     if given.draw is not None:
-        print(drawn_script(random.Random(given.draw), given.chairs), end="")
+        show(drawn_script(random.Random(given.draw), given.chairs), end="")
         return
     run, different = replay(read_bytes(given.script), readers=4), 0
     if run.fault:
@@ -51,7 +51,7 @@ def make(given: argparse.Namespace) -> None:
         different += bool(problems)
         coalitions = f"{len(reading.weights)} chairs, {reading.coalitions:,} coalitions"
         said = "; ".join(problems) or "quota, winning coalitions and all swings agree"
-        print(f"reading {number} at {reading.majority}: {coalitions}: {said} ({time.monotonic() - begun:.1f} s)")
+        show(f"reading {number} at {reading.majority}: {coalitions}: {said} ({time.monotonic() - begun:.1f} s)")
     if different:
         sys.exit(1)
 

@@ -11,7 +11,7 @@ from typing import Optional
 from . import studies
 from .answers import NAMES, counted
 from .command_line import PAGE, TABLE, add_figure_words, check_names, command_words, ended
-from .command_line import majorities, out_name, printable, read_bytes, say
+from .command_line import majorities, out_name, printable, read_bytes, say, show
 from .files import check_same, place_of, write_files
 from .names import MAJORITIES, VERSION
 from .saved_studies import CHANGED, Saved, is_saved, read_saved
@@ -183,14 +183,15 @@ def make(given: argparse.Namespace) -> None:
         figures = figure_files(study_figures(study, given.measure), place, given.figure_titles == "in", lines)
     page = page_with(page_data(study, given.title or start.name, lines, given.measure, start.published))
     texts = [study_table(study, lines), page, *([study.script()] if given.replay else [])]
-    answers = printable("\n".join(sentences(study, given)))
+    answers = "\n".join(sentences(study, given))
     if given.replay and not given.force:
         check_same(given.replay, texts[-1].encode())
-    write_files({**dict(zip(places_of(given, figures), (it.encode() for it in texts))), **figures})
+    places = places_of(given, figures)
+    show(printable(answers))
+    write_files({**dict(zip(places, (it.encode() for it in texts))), **figures})
     others = [it.sweep for it in study.sweeps if it.sweep != sweep_in_page(study)]
     alone = "is in OUT.csv alone: the page holds one sweep, of a member or a chair"
     say("board-study", [f"{it.text!r} {alone}" for it in others])
-    print(printable(answers))
 
 
 def main() -> int:

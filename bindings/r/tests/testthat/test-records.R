@@ -130,7 +130,7 @@ test_that("a script that can't be carried out is refused with its record", {
   wrong(board_from_script(file = 5), "the file is 5 (numeric): the path of a file")
 })
 
-# A landing doesn't fill a journal at its limit: it has the refusal at other limits, and longer texts below.
+# The gate doesn't fill a journal at its limit: it has the refusal at other limits, and longer texts below.
 if (is_deep) test_that("a million commands are carried out and written back", {
   r <- board_register(c(AAA = 1))
   records <- rep(c("open,1", "move,AAA,1", "move,AAA,none", "close,1"), 250000)
@@ -163,7 +163,7 @@ test_that("pieces are cut within any record, and nothing is lost", {
   expect_gt(length(text), 4194304)
   opening <- charToRaw("member,votes\nAAA,1\nscript\n")
   period <- sum(nchar(records) + 2)
-  # A landing cuts at each third byte of the records, so in each field, and not beside each of their ends.
+  # The gate cuts at each third byte of the records, so in each field, and not beside each of their ends.
   for (blank in seq(0, period - 1, by = if (is_deep) 1 else 3)) {
     moved <- c(rep(as.raw(10), blank), text)
     r <- board_register(c(AAA = 1))

@@ -155,7 +155,7 @@ fn a_million_commands() {
     assert_eq!((why.refusal(), why.record()), (Refusal::BadRecord, Some(700_001)));
 }
 
-/// However a text is cut into pieces, it has the same records: blank lines shift the cuts by a byte each. In a landing
+/// However a text is cut into pieces, it has the same records: blank lines shift the cuts by a byte each. In the gate
 /// they do so by three, which cuts each record, and not beside each of its ends.
 #[test]
 fn pieces_cut_no_record() {
