@@ -52,12 +52,18 @@ function ticked(codes) {
 /** The change in the list at a place, from 0. */
 const change = (place) => document.querySelectorAll("#changes > li")[place].dataset.id;
 
-/** The text that a button of the exports would save; it isn't saved. */
+/** The text that a button of the exports would save; it isn't saved. Scripts of workers have URLs, too. */
 async function exported(id) {
-  const [{ createObjectURL }, { click }] = [URL, HTMLAnchorElement.prototype];
-  HTMLAnchorElement.prototype.click = () => {};
+  const [{ createObjectURL }, { click }, blobs] = [URL, HTMLAnchorElement.prototype, new Map()];
   const blob = await new Promise((take) => {
-    URL.createObjectURL = (it) => (take(it), createObjectURL.call(URL, it));
+    URL.createObjectURL = (it) => {
+      const url = createObjectURL.call(URL, it);
+      blobs.set(url, it);
+      return url;
+    };
+    HTMLAnchorElement.prototype.click = function () {
+      take(blobs.get(this.href));
+    };
     press(at("export"));
     press(at(id));
   });

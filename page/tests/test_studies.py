@@ -158,6 +158,7 @@ def test_best_move(page: Page, oracle: Oracle) -> None:
     # Catches: a ranking by votes, a member that is tried where it sits, or numbers of the base.
     page.click("#best-open")
     page.choose("#best-chair", "5")
+    page.click("#best-empty")
     page.choose("#best-at", "85")
     page.click("#best-run")
     page.until(lambda: page.all("#best-table"), "the moves")
