@@ -5,7 +5,7 @@ import type { Columns, Line } from "../engine/columns";
 import type { ChairRow } from "../engine/compare";
 import { button, h, type Child } from "./dom";
 import type { View } from "../study/study";
-import { tagElements } from "./rows";
+import { lastRow, tagElements } from "./rows";
 import { MEASURE } from "../study/words";
 
 export const KIND_WORDS: Readonly<Record<ChairRow["kind"], string>> = {
@@ -50,7 +50,7 @@ export function chairTable(app: App, columns: Columns): HTMLElement {
   const rows = lines.map(({ line, cells }) =>
     h("tr", { "data-chair": line.chair, "data-kind": line.kind },
       h("th", { scope: "row" }, String(line.chair)),
-      h("td", { class: "text" }, h("bdi", {}, line.name), KIND_WORDS[line.kind], tagElements(line)),
+      h("td", { class: "text" }, h("bdi", {}, line.name), KIND_WORDS[line.kind], tagElements(lastRow(line))),
       cells.map((it, at) => h("td", { title: `${it.fraction} (${it.source})`, class: firsts[at] },
         shownCell(it, view).replace(/^-(?=\d)/, "−"))),
     ),

@@ -200,14 +200,13 @@ export function votesOf(line: Line, { view, isGain }: List): Child {
 }
 
 /** The row of a line's last column. */
-function lastRow({ cells }: Line): ChairRow | undefined {
+export function lastRow({ cells }: Line): ChairRow | undefined {
   return cells[cells.length - 1];
 }
 
 /** What stands beside a chair's name: whether it has a veto, and at which majorities. No text of a table that is
  * copied has it, since its words are the style's. */
-export function tagElements(line: Line): Child {
-  const row = lastRow(line);
+export function tagElements(row: ChairRow | undefined): Child {
   return row ? tagsOf(row.at).map(({ words, turn, majorities }) =>
     h("span", { class: `tag ${turn}`, "data-words": words }, majorities.map((it) => markOf(it)))) : null;
 }
