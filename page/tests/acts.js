@@ -25,6 +25,9 @@ function opened(code) {
   return isThere;
 }
 
+/** Presses a button of a menu; if it isn't there, it closes the menu. */
+const offered = (id) => press(at(id)) || !press(document.querySelector("dialog .close"));
+
 /** Writes into a field of a menu and presses its button; if the field doesn't offer that, it closes the menu. */
 function taken(field, text, button) {
   if (at(field)) fill(at(field), text);
@@ -82,8 +85,8 @@ const acts = {
     const field = text.endsWith("%") ? (/^[+-]/.test(text) ? "votes-own" : "votes-total") : "votes-number";
     return opened(code) && taken(field, text.replace("%", ""), `${field}-take`);
   },
-  suspend: (code) => opened(code) && press(at("suspend")),
-  restore: (code) => opened(code) && press(at("restore")),
+  suspend: (code) => opened(code) && offered("suspend"),
+  restore: (code) => opened(code) && offered("restore"),
   withdraw: (code) => opened(code) && press(at("withdraw")),
   admit: (code, votes) => {
     press(at("admit-open"));

@@ -6,7 +6,7 @@ from typing import Any
 
 import pytest
 from chromium import Page
-from figures import check_figures, open_chair, open_menu
+from figures import check_figures, open_chair, open_menu, remove_all
 from oracle import Oracle
 from selenium.webdriver.common.action_chains import ActionChains
 from selenium.webdriver.common.keys import Keys
@@ -169,7 +169,7 @@ def test_list_of_changes(page: Page, oracle: Oracle) -> None:
     check_figures(page, oracle, [f"votes,XAA,{more}"])
     assert page.act("switch", "0") and page.act("earlier", "1")
     check_figures(page, oracle, [f"votes,XAA,{more}", "votes,XAA,100000"])
-    page.click("#clear-changes")
+    remove_all(page)
     check_figures(page, oracle, [])
 
 

@@ -54,7 +54,7 @@ def reopened(page: Page, name: str, content: bytes, folder: Path) -> None:
 def test_any_study_can_be_saved(page: Page, way: str, tmp_path: Path) -> None:
     # Catches: a saved study that can't be opened, since a name is long or has marks, or loses scenarios and its sweep.
     opened(page, NAMES)
-    for act in [["votes", "AAA", "+12.5%"], ["move", "BBB", "none"], ["suspend", "CCC"], ["suspend", "CCC"]]:
+    for act in [["votes", "AAA", "+12.5%"], ["move", "BBB", "none"], ["suspend", "CCC"], ["move", "CCC", "1"]]:
         assert page.act(*act)
     page.write("#published", "281474976710656")
     page.write("#scenario-name", 'A "name"; ñ')

@@ -7,7 +7,7 @@ from typing import Any
 import inputs
 import pytest
 from chromium import ACTS, Page
-from figures import check_figures, gains, lowest, shown_majorities
+from figures import check_figures, gains, lowest, remove_all, shown_majorities
 from member_tables import MOST_VOTES, register_of
 from oracle import Oracle, least
 from replay_output import Chair, Ratio
@@ -125,7 +125,7 @@ def test_scenarios(page: Page, oracle: Oracle) -> None:
     page.write("#scenario-name", "More votes")
     assert page.act("move", "XAA", "2")
     page.write("#scenario-name", "A move")
-    page.click("#clear-changes")
+    remove_all(page)
     assert not page.all("#changes > li")
     page.until(lambda: "counting" not in page.text("#scenarios"), "the scenarios")
     names = oracle.table.chair_names
@@ -147,7 +147,7 @@ def test_scenarios(page: Page, oracle: Oracle) -> None:
 def test_csv_of_a_scenario_just_kept(page: Page, oracle: Oracle) -> None:
     # Catches: a scenario that is left out of the table, without a word, since it isn't counted yet.
     assert page.act("votes", "XAD", "318104")
-    page.at("#scenario-name").send_keys("More votes")
+    page.reach("#scenario-name").send_keys("More votes")
     keep = 'document.getElementById("scenario-keep").click();'
     csv = page.wait_for(keep + ACTS, "exported", "export-csv")
     wanted = {"More votes": ["votes,XAD,318104"], "changed": ["votes,XAD,318104"]}

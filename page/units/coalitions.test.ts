@@ -261,7 +261,7 @@ test("the smallest coalitions that need each of their chairs", () => {
     const kinds = [[wins, minimalWinning], [blocks, minimalBlocking]] as const;
     for (const [holds, minimalOf] of kinds) {
       const minimal = all(board).flatMap(({ places }, bits) =>
-        (holds(bits) && places.every((at) => !holds(bits ^ (1 << at))) ? [places.map((at) => board.numbers[at]!)] : []));
+        holds(bits) && places.every((at) => !holds(bits ^ (1 << at))) ? [places.map((at) => board.numbers[at]!)] : []);
       for (const without of [null, board.numbers[0]!]) {
         for (const chair of board.numbers.filter((it) => it !== without)) {
           const own = minimal.filter((it) => it.includes(chair) && !(without !== null && it.includes(without)));

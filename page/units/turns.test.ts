@@ -113,7 +113,7 @@ function hasPower({ measure, least }: Power, [winning = 0, own = 0, ...rest]: re
   return under! > 0 && over! >= Number(least) * under!;
 }
 
-/** The votes of other chairs beside which the share of power of the first falls at 85 per cent, while its votes grow. */
+/** The votes of chairs beside which the share of power of the first one falls at 85 per cent, while its votes grow. */
 const FALLING = [[7, 7, 10, 1, 12], [2, 3, 11, 12, 5, 2], [10, 1, 8, 4, 12, 7], [10, 7, 11, 3, 3, 9]];
 
 /** A board of chairs with one member each, beside the first. */

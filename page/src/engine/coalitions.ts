@@ -190,8 +190,8 @@ export function smallestWith(rule: Rule, chair: number | null, subsets: Subsets,
   return { size: size + own.length, many, first: whole };
 }
 
-/** What the coalitions of a size need, each of whose chairs is needed: votes from `low` on, and less than `high` without
- * the chair that has the fewest. */
+/** What the coalitions of a size need, each of whose chairs is needed: votes from `low` on, and less than `high`
+ * without the chair that has the fewest. */
 interface Needed {
   readonly low: number;
   readonly high: number;
@@ -269,8 +269,8 @@ function* minimalInOrder({ chairs }: Minimal, own: Voter, size: number, needed: 
   yield* from(0, []);
 }
 
-/** The minimal coalitions with a chair that have the fewest chairs, the first of them up to some number; null if it has
- * none. */
+/** The minimal coalitions with a chair that have the fewest chairs, the first of them up to some number; null if
+ * there are none. */
 export function minimalWith(minimal: Minimal, chair: number, above: readonly Above[], most: number): Smallest | null {
   const own = minimal.chairs.find((it) => it.chair === chair);
   if (!own) return null;

@@ -33,7 +33,7 @@ function isSure(one: Counts, other: Counts, share: Ratio): boolean {
     : twice(high.own) < (sum - most) * share.numerator;
 }
 
-/** The votes nearest to `near`, on the way to `far`, at which the answer is another one than at `near`; null for none. */
+/** The votes nearest to `near`, on the way to `far`, at which the answer isn't that at `near`; null for none. */
 export async function turnAwayFrom(
   near: Counts,
   far: Counts,

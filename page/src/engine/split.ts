@@ -80,7 +80,7 @@ export function sweepOver(
 /** All votes that a member may have. */
 const ANY_VOTES = { low: 0, high: MEMBER_VOTES };
 
-/** What is asked of a chair at a majority, with the statements on another chair and on a power if they are asked for. */
+/** What is asked of a chair at a majority, also of another chair and of a power if that is asked for. */
 function questionsAt(majority: Majority, { other, power }: ThresholdsAsked): Question[] {
   const ask = (what: Statement, of: Partial<Question> = {}): Question => {
     return { majority, what, ...ALONE, ...ANY_VOTES, ...of };

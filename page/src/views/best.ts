@@ -15,8 +15,8 @@ import { LongWork } from "./longWork";
 /** The moves to any chair that are shown. */
 const MOST_SHOWN = 50;
 
-/** What is asked for: moves to a chair, or with null to each chair, at a majority. They empty no chair, unless they may:
- * an emptied chair changes more than any other move. */
+/** What is asked for: moves to a chair, or with null to each chair, at a majority. They empty no chair, unless they
+ * may: an emptied chair changes more than any other move. */
 interface Asked {
   readonly chair: number | null;
   readonly majority: Majority;

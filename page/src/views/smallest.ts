@@ -180,8 +180,10 @@ function foundOf({ chairs, readings }: Looked, wanted: Wanted): Found[] {
   if (isMinimal && chair !== null) {
     const above = subsetsAbove(voters, chair);
     const minimal = isBlocking ? minimalBlocking : minimalWinning;
-    const smallest = (it: Reading) => (it.winning ? minimalWith(minimal(it, without), chair, above, MOST_LISTED) : null);
-    return readings.map((reading) => ({ reading, wanted, smallest: smallest(reading) }));
+    return readings.map((reading) => {
+      const smallest = reading.winning ? minimalWith(minimal(reading, without), chair, above, MOST_LISTED) : null;
+      return { reading, wanted, smallest };
+    });
   }
   const others = subsetsWithout(voters, chair);
   return readings.map((reading) => {

@@ -169,8 +169,8 @@ function content(app: App, shown: Shown, first: ThresholdsAsked, work: LongWork)
 }
 
 const WORDS =
-  "Each threshold is exact among all numbers of votes that a member may have: the register counts on both sides of it. " +
-  "A share of power may fall while votes grow; then the first votes that reach it and those that keep it are two lines.";
+  "Each threshold is exact among all numbers of votes that a member may have: the register counts on both sides of " +
+  "it. A share of power may fall while votes grow; then it is first had from some votes on, and always from others.";
 
 /** Opens the dialog, which finds the thresholds of a member or a chair; without a board, on the one that is shown. */
 export function openThresholds(app: App, who: Who, on?: SweepAsked["on"]): void {
