@@ -108,7 +108,7 @@ function thingColumns(asked: Asked, things: Things): Column[] {
   const { thing, group, alone, mark, value, added, sum } = things;
   const last = asked.columns.list.length - 1;
   const column = (own: string, at: number, side: "before" | "after", words = `${group}, ${own}`): Column => {
-    const isOrder = at === last && (side === "after" || asked.isAlone);
+    const isOrder = thing !== "share" && at === last && (side === "after" || asked.isAlone);
     const order: Pick<Head, "order"> = isOrder ? { order: [things.at ? "power" : "votes", things.at] } : {};
     return {
       of: [thing], head: { group, own, words, mark, ...order }, cell: (line) => value(line, at, side),
