@@ -68,9 +68,7 @@ def margin(board: Board, majority: str, chair: int) -> int | None:
     None if votes don't matter."""
 
     def has_veto(votes: int) -> bool:
-        other = replace(
-            board, votes={**board.votes, chair: votes}, total=board.total - board.votes[chair] + votes
-        )
+        other = replace(board, votes={**board.votes, chair: votes}, total=board.total - board.votes[chair] + votes)
         return kind(other, majority, chair) in ("veto", "alone")
 
     own = board.votes[chair]
