@@ -20,7 +20,8 @@ from test_said import opened
 
 BROWSERS = EVERY
 # The tests drive Chromium's phone and its print.
-NOT_IN_FIREFOX = {"test_a_phone", "test_first_page_of_paper", "test_controls_on_the_first_screen"}
+NOT_IN_FIREFOX = {"test_a_phone", "test_first_page_of_paper", "test_answers_on_paper"}
+NOT_IN_FIREFOX |= {"test_controls_on_the_first_screen"}
 # For each row of the list its chair, and its tags with their majorities.
 TAGS = """
   const at = (it) => it.getAttribute("class").match(/at-(\\w+)/)[1];
@@ -287,13 +288,25 @@ def test_a_phone(page: Page) -> None:
     assert not page.look("wide", NARROW)
 
 
-def test_first_page_of_paper(page: Page, tmp_path: Path) -> None:
-    # Catches: a first page that is half empty, or that says neither which program counted nor when it was printed.
+def first_page(page: Page, folder: Path) -> list[tuple[str, str]]:
+    """The words of the first page on paper, each after the place of its end from the top."""
     size = {"paperWidth": 210 / 25.4, "paperHeight": 297 / 25.4}
-    file = tmp_path / "page.pdf"
+    file = folder / "page.pdf"
     file.write_bytes(base64.b64decode(page.driver.execute_cdp_cmd("Page.printToPDF", size)["data"]))
     done = subprocess.run(["pdftotext", "-bbox", "-l", "1", str(file), "-"], capture_output=True, check=True)
-    words = re.findall(r'yMax="([\d.]+)">([^<]*)<', done.stdout.decode())
+    return re.findall(r'yMax="([\d.]+)">([^<]*)<', done.stdout.decode())
+
+
+def test_answers_on_paper(page: Page, tmp_path: Path) -> None:
+    # Catches: answers that are buttons on the screen, so that paper hasn't them.
+    page.click("#tab-coalition")
+    text = " ".join(word for _, word in first_page(page, tmp_path))
+    assert "Blocks alone no chair 1 Harbours Fewest others that block 9 chairs: 1 Harbours" in text
+
+
+def test_first_page_of_paper(page: Page, tmp_path: Path) -> None:
+    # Catches: a first page that is half empty, or that says neither which program counted nor when it was printed.
+    words = first_page(page, tmp_path)
     text = " ".join(word for _, word in words)
     assert re.search(r"Counted by board \d+\.\d+\.\d+, printed \d{4}-\d\d-\d\d\.", text)
     rows = [float(at) for at, word in words if word in ("Harbours", "Islands", "Reefs")]
