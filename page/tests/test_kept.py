@@ -106,6 +106,8 @@ def test_file_of_another_study(page: Page, tmp_path: Path) -> None:
     page.at("#file").send_keys(f"{tmp_path / 'it.study.json'}\n{tmp_path / 'it.csv'}")
     page.until(lambda: page.all("#refusal"), "the sentence")
     assert "The file's study is shown." in page.text("#refusal") and "stays as it was" not in page.text("#refusal")
+    # What was done has no heading that says that it can't be.
+    assert page.text("#refusal h2") == "These files are of two studies"
     assert len(page.all("#changes > li")) == 1
 
 

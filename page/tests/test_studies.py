@@ -225,6 +225,7 @@ def test_a_changed_file(page: Page) -> None:
             page.until(lambda: page.all("#refusal"), "what is wrong")
         said = page.text("#refusal") if page.all("#refusal") else ""
         assert ("no longer has the hash" in said) == (name in ("other", "twice")), (name, said)
+        assert said.startswith("This study was changed after it was saved") == (name in ("other", "twice"))
         assert ("breaks off before its end" in said) == (name == "cut"), (name, said)
         page.run("document.querySelector('dialog .close')?.click();")
         ids = page.run("return [...document.querySelectorAll('#changes > li')].map((it) => it.dataset.id);")
