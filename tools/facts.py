@@ -36,13 +36,12 @@ OPERATIONS = {
 }
 # Why a group gets no votes: several members without any have no proportions. One member alone needs none.
 NO_PROPORTIONS = "these members have no votes, so no proportions to keep"
-# The sentences on who has most and who gains most, by their names; what they speak of stands in {braces}.
+# The sentences on vetoes and on who gains most, by their names; what they speak of stands in {braces}.
 FINDINGS = {
     "none_wins": "{at} no coalition wins: the open chairs cast {cast} of {total} votes.",
     "none_before": "{at} no coalition wins in the base, so nothing can be compared.",
-    "most_one": "{at}, chair {chairs} has the largest {measure}: {value}{votes}.",
-    "most_several": "{at}, chairs {chairs} have the largest {measure}, each the same: {value}.",
-    "votes": " with {share} of the votes",
+    "no_veto": "{at}, no chair has a veto: at least {carry} chairs are needed to carry, and {block} to block.",
+    "no_veto_quorum": "{at}, no chair has a veto: at least {carry} chairs are needed to meet it, {block} to stop it.",
     "vetoes": "{at}, {vetoes}.",
     "alone_one": "chair {chairs} decides alone: everything passes with it, and nothing without it",
     "has_one": "chair {chairs} has a veto{margin}: {nothing} without it",

@@ -64,9 +64,8 @@ export const MEASURE_NAMES = {
 export const FINDINGS = {
   none_wins: "{at} no coalition wins: the open chairs cast {cast} of {total} votes.",
   none_before: "{at} no coalition wins in the base, so nothing can be compared.",
-  most_one: "{at}, chair {chairs} has the largest {measure}: {value}{votes}.",
-  most_several: "{at}, chairs {chairs} have the largest {measure}, each the same: {value}.",
-  votes: " with {share} of the votes",
+  no_veto: "{at}, no chair has a veto: at least {carry} chairs are needed to carry, and {block} to block.",
+  no_veto_quorum: "{at}, no chair has a veto: at least {carry} chairs are needed to meet it, {block} to stop it.",
   vetoes: "{at}, {vetoes}.",
   alone_one: "chair {chairs} decides alone: everything passes with it, and nothing without it",
   has_one: "chair {chairs} has a veto{margin}: {nothing} without it",

@@ -25,6 +25,9 @@ function opened(code) {
   return isThere;
 }
 
+/** Presses a button of a menu; if it isn't there, it closes the menu. */
+const offered = (id) => press(at(id)) || !press(document.querySelector("dialog .close"));
+
 /** Writes into a field of a menu and presses its button; if the field doesn't offer that, it closes the menu. */
 function taken(field, text, button) {
   if (at(field)) fill(at(field), text);
@@ -52,12 +55,18 @@ function ticked(codes) {
 /** The change in the list at a place, from 0. */
 const change = (place) => document.querySelectorAll("#changes > li")[place].dataset.id;
 
-/** The text that a button of the exports would save; it isn't saved. */
+/** The text that a button of the exports would save; it isn't saved. Scripts of workers have URLs, too. */
 async function exported(id) {
-  const [{ createObjectURL }, { click }] = [URL, HTMLAnchorElement.prototype];
-  HTMLAnchorElement.prototype.click = () => {};
+  const [{ createObjectURL }, { click }, blobs] = [URL, HTMLAnchorElement.prototype, new Map()];
   const blob = await new Promise((take) => {
-    URL.createObjectURL = (it) => (take(it), createObjectURL.call(URL, it));
+    URL.createObjectURL = (it) => {
+      const url = createObjectURL.call(URL, it);
+      blobs.set(url, it);
+      return url;
+    };
+    HTMLAnchorElement.prototype.click = function () {
+      take(blobs.get(this.href));
+    };
     press(at("export"));
     press(at(id));
   });
@@ -76,8 +85,8 @@ const acts = {
     const field = text.endsWith("%") ? (/^[+-]/.test(text) ? "votes-own" : "votes-total") : "votes-number";
     return opened(code) && taken(field, text.replace("%", ""), `${field}-take`);
   },
-  suspend: (code) => opened(code) && press(at("suspend")),
-  restore: (code) => opened(code) && press(at("restore")),
+  suspend: (code) => opened(code) && offered("suspend"),
+  restore: (code) => opened(code) && offered("restore"),
   withdraw: (code) => opened(code) && press(at("withdraw")),
   admit: (code, votes) => {
     press(at("admit-open"));

@@ -75,6 +75,35 @@ class Board:
         winning = [it for it in self.coalitions() if chair in it and self.wins(majority, it)]
         return [it for it in winning if len(it) == len(winning[0])]
 
+    def blocks(self, majority: str, coalition: Collection[int]) -> bool:
+        """Whether all other chairs together lose."""
+        return not self.wins(majority, set(self.votes) - set(coalition))
+
+    def minimal(self, majority: str, chair: int, is_blocking: bool, without: int | None) -> list[Coalition]:
+        """The smallest coalitions with a chair that win, or block, and don't without any of their chairs."""
+        holds = self.blocks if is_blocking else self.wins
+        found = [
+            it
+            for it in self.coalitions()
+            if chair in it
+            and without not in it
+            and holds(majority, it)
+            and not any(holds(majority, set(it) - {own}) for own in it)
+        ]
+        return [it for it in found if len(it) == len(found[0])]
+
+    def smallest_of_any(self, majority: str, is_blocking: bool, without: int | None) -> list[Coalition]:
+        """The smallest coalitions that win, or block, without a chair."""
+        holds = self.blocks if is_blocking else self.wins
+        found = [it for it in self.coalitions() if without not in it and holds(majority, it)]
+        return [it for it in found if len(it) == len(found[0])]
+
+    def fewest_blockers(self, majority: str) -> Coalition:
+        """Some of the fewest chairs that block, and none of which blocks alone; empty if there are none."""
+        alone = set(self.vetoes(majority) or [])
+        found = [it for it in self.coalitions() if not alone & set(it) and self.blocks(majority, it)]
+        return found[0] if found else ()
+
     def vetoes(self, majority: str) -> list[int] | None:
         """The chairs that all winning coalitions have, or None if there are no such coalitions."""
         winning = [set(it) for it in self.coalitions() if self.wins(majority, it)]

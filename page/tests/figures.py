@@ -123,3 +123,9 @@ def open_menu(page: Page, code: str) -> None:
     """Opens a member's menu by mouse and keyboard."""
     page.write("#filter", code)
     page.click(f"#chip-{code}")
+
+
+def remove_all(page: Page) -> None:
+    """Removes all changes: two or more have a button, and one has its own."""
+    has_one = page.run('return document.getElementById("clear-changes").hidden;')
+    page.click("#changes [id^='remove-']" if has_one else "#clear-changes")

@@ -40,7 +40,7 @@ def check_names(page: Page, where: str) -> None:
 
 def test_names_and_roles(page: Page) -> None:
     # Catches: a button with a picture alone, a field without a label, a box that is clicked and isn't a button.
-    assert page.act("votes", "XAD", "300000") and page.act("suspend", "XAD") and page.act("suspend", "XAD")
+    assert page.act("votes", "XAD", "300000") and page.act("suspend", "XAD") and page.act("move", "XAD", "5")
     page.write("#scenario-name", "Kept")
     page.click("#card-1")
     for tab in TABS:
@@ -170,9 +170,12 @@ def test_keyboard_alone(page: Page, oracle: Oracle) -> None:
     check_figures(page, oracle, ["votes,XAD,318104"])
     tab_to(page, "#display summary")
     page.press(Keys.ENTER)
-    tab_to(page, "#order")
-    page.press("gain")
-    assert page.at("#order").get_property("value") == "gain"
+    tab_to(page, "#digits")
+    page.press("3")
+    assert page.at("#digits").get_property("value") == "3"
+    tab_to(page, "#sort-power-85")
+    page.press(Keys.ENTER)
+    assert page.at("#sort-power-85").get_attribute("aria-pressed") == "true"
     tab_to(page, "#tab-power")
     page.press(Keys.ARROW_RIGHT, Keys.ARROW_RIGHT)
     tab_to(page, "#sweep-run")
@@ -203,6 +206,8 @@ def test_a_study_by_keyboard(page: Page) -> None:
     page.press(Keys.ARROW_UP)
     page.press(Keys.ENTER)
     page.until(lambda: len(page.all("#changes > li")) == 1, "the move")
+    tab_to(page, "#keep summary")
+    page.press(Keys.ENTER)
     tab_to(page, "#scenario-name")
     page.press("Moved", Keys.ENTER)
     page.until(lambda: page.all("#scenarios"), "the scenario")

@@ -105,6 +105,25 @@ def test_all_moves_of_a_small_board(page: Page, oracle: Oracle) -> None:
         page.press(Keys.ESCAPE)
 
 
+def test_moves_to_a_chair_that_empty_no_chair(page: Page, oracle: Oracle) -> None:
+    # Catches: moves that empty a chair and lead the list though nobody asked for them, or that never come.
+    opened(page, SMALL)
+    page.click("#best-open")
+    page.choose("#best-chair", "3")
+    page.choose("#best-at", "85")
+    for is_any in [False, True]:
+        if is_any:
+            page.click("#best-empty")
+        page.click("#best-run")
+        alone = {it for it, chair in SEATS.items() if chair and list(SEATS.values()).count(chair) == 1}
+        codes = [it for it, chair in SEATS.items() if chair != 3 and (is_any or it not in alone)]
+        page.until(lambda: len(page.all("#best-table tbody tr")) == len(codes), "the moves")
+        assert page.text("#best-words").startswith(f"{len(codes)} moves were counted in ")
+        added = {it: small_gains(oracle, "85", "share", (it, 3))[3] for it in codes}
+        rows = page.run('return [...document.querySelectorAll("#best-table tbody tr")].map((it) => it.dataset.code);')
+        assert rows == sorted(codes, key=lambda it: -added[it])
+
+
 def test_moves_of_the_example(page: Page, oracle: Oracle) -> None:
     # Catches: one of thousands of moves in the place of another, or a greater one that isn't among the first.
     assert page.act("votes", "XAD", "300000")

@@ -6,7 +6,7 @@ from typing import Any
 
 import pytest
 from chromium import Page
-from figures import check_figures, open_chair, open_menu
+from figures import check_figures, open_chair, open_menu, remove_all
 from oracle import Oracle
 from selenium.webdriver.common.action_chains import ActionChains
 from selenium.webdriver.common.keys import Keys
@@ -98,14 +98,24 @@ def test_votes_that_are_none(page: Page, field: str, text: str) -> None:
 
 
 def test_suspend_and_restore(page: Page, oracle: Oracle) -> None:
-    # Catches: a suspended member whose votes stay in the total.
+    # Catches: a suspended member whose votes stay in the total, and a menu that offers what can only be refused.
     open_menu(page, "XAB")
+    assert not page.all("#restore")
     page.click("#suspend")
     check_figures(page, oracle, ["suspend,XAB"])
     assert "suspended: XAB Roswick" in page.text("#summary")
     page.click("#chip-XAB")
+    assert not page.all("#suspend")
     page.click("#restore")
     check_figures(page, oracle, [])
+
+
+def test_a_move_without_a_place(page: Page) -> None:
+    # Catches: Enter in a member's menu that moves it to the first chair of the list.
+    open_menu(page, "XAC")
+    assert page.at("#move-to").get_property("value") == ""
+    page.click("#move-take")
+    assert page.all("#member") and not page.all("#changes > li")
 
 
 def test_admit_and_withdraw(page: Page, oracle: Oracle) -> None:
@@ -169,7 +179,7 @@ def test_list_of_changes(page: Page, oracle: Oracle) -> None:
     check_figures(page, oracle, [f"votes,XAA,{more}"])
     assert page.act("switch", "0") and page.act("earlier", "1")
     check_figures(page, oracle, [f"votes,XAA,{more}", "votes,XAA,100000"])
-    page.click("#clear-changes")
+    remove_all(page)
     check_figures(page, oracle, [])
 
 

@@ -143,25 +143,118 @@ def test_keyboard(small: Page) -> None:
     check_verdict(small, BOARD, (5, 6, 7, 8))
 
 
+def check_smallest(page: Page, wanted: dict[str, list[Coalition]], none: str, has_number: bool = True) -> int:
+    """The table and the lists have the smallest coalitions at each majority. Returns how many texts were compared."""
+    numbers = {it: [str(len(wanted[it]))] if has_number else [] for it in wanted}
+    table = [[str(len(all_[0])) if all_ else none, *numbers[it]] for it, all_ in wanted.items()]
+    assert [cells[1:] for cells in page.run(CELLS, "#smallest-table tbody tr")] == table
+    compared = 0
+    for majority, all_ in wanted.items():
+        page.choose("#smallest-at", majority)
+        first = all_[:20]
+        lists = [[BOARD.listed(list(it), "").split(": ", 1)[1], str(BOARD.of(it))] for it in first]
+        assert [cells[1:3] for cells in page.run(CELLS, "#smallest-list tbody tr")] == lists
+        assert page.text("#smallest-words").startswith(WORDS[majority])
+        compared += 2 + 2 * len(first)
+    return compared
+
+
 def test_smallest(small: Page) -> None:
     # Catches: a coalition that loses or is too large, a wrong number of them, or a button that ticks another one.
     compared = 0
+    small.click("#smallest-minimal")
     for chair in BOARD.votes:
         small.choose("#smallest-chair", str(chair))
         wanted = {it: BOARD.smallest(it, chair) for it in MAJORITIES}
-        table = [[str(len(it[0])), str(len(it))] for it in wanted.values()]
-        assert [cells[1:] for cells in small.run(CELLS, "#smallest-table tbody tr")] == table
-        for majority in MAJORITIES:
-            small.choose("#smallest-at", majority)
-            first = wanted[majority][:20]
-            lists = [[BOARD.listed(list(it), "").split(": ", 1)[1], str(BOARD.of(it))] for it in first]
-            assert [cells[1:3] for cells in small.run(CELLS, "#smallest-list tbody tr")] == lists
-            assert small.text("#smallest-words").startswith(WORDS[majority])
-            compared += 2 + 2 * len(first)
-    for at, coalition in enumerate(first):
+        compared += check_smallest(small, wanted, "")
+    for at, coalition in enumerate(wanted["quorum"][:20]):
         small.click(f"#tick-these-{at}")
         check_verdict(small, BOARD, coalition)
     assert compared > 200
+
+
+@pytest.mark.parametrize("kind", ["winning", "blocking"])
+def test_minimal(small: Page, kind: str) -> None:
+    # Catches: a chair that is listed beside others that win, or block, without it, and one that is left out.
+    small.choose("#smallest-kind", kind)
+    compared, without = 0, 0
+    for chair in BOARD.votes:
+        small.choose("#smallest-chair", str(chair))
+        for out in [None, 1] if chair == 2 else [None]:
+            small.choose("#smallest-without", str(out or ""))
+            wanted = {it: BOARD.minimal(it, chair, kind == "blocking", out) for it in MAJORITIES}
+            compared += check_smallest(small, wanted, "none needs it")
+            without += sum(not it for it in wanted.values())
+        small.choose("#smallest-without", "")
+    small.choose("#smallest-chair", "8")
+    small.choose("#smallest-at", "half")
+    what = "wins" if kind == "winning" else "can block"
+    assert small.text("#smallest-words") == f"At a simple majority no coalition that {what} needs this chair."
+    assert compared > 100 and without >= 3
+
+
+def test_any_and_without(small: Page) -> None:
+    # Catches: a smallest coalition of any chairs that isn't the smallest, or one with the chair that is left out.
+    small.choose("#smallest-chair", "any")
+    assert not small.all("#smallest-minimal")
+    for kind in ["winning", "blocking"]:
+        small.choose("#smallest-kind", kind)
+        for out in [None, 1, 2]:
+            small.choose("#smallest-without", str(out or ""))
+            wanted = {it: BOARD.smallest_of_any(it, kind == "blocking", out) for it in MAJORITIES}
+            check_smallest(small, wanted, "none wins", kind == "winning")
+
+
+def test_the_list_fills_the_bar(small: Page) -> None:
+    # Catches: a row of the list that doesn't take a click, a bar that isn't as long as the votes, or a quota beside it.
+    room = 'return document.getElementById("fill").getBoundingClientRect().width;'
+    parts = """return [...document.querySelectorAll("#fill .part")].map((it) => it.getBoundingClientRect().width);"""
+    quotas = """return [...document.querySelectorAll("#fill line")].map((it) => parseFloat(it.getAttribute("x1")));"""
+    own: list[int] = []
+    for chair in [2, 5, 1]:
+        small.click(f'#ticks label[data-chair="{chair}"] .number')
+        own = sorted([*own, chair])
+        check_verdict(small, BOARD, tuple(own))
+        widths, whole = small.run(parts), small.run(room)
+        assert [round(100 * it / whole) for it in widths] == [BOARD.votes[it] for it in own]
+    assert small.run(quotas) == [BOARD.quota(it) for it in MAJORITIES]
+    small.click('#ticks label[data-chair="2"] .card-title')
+    check_verdict(small, BOARD, (1, 5))
+
+
+def test_the_list_is_in_the_order_of_the_others(page: Page) -> None:
+    # Catches: chairs by number beside a list by votes, and a veto that isn't at the row here.
+    order = 'return [...document.querySelectorAll("#ticks label")].map((it) => Number(it.dataset.chair));'
+    rows = 'return [...document.querySelectorAll("#cards > li")].flatMap((it) => Number(it.dataset.place) || []);'
+    for sort in ["#sort-votes", "#sort-number"]:
+        page.click("#tab-power")
+        page.click(sort)
+        wanted = page.run(rows)
+        page.click("#tab-coalition")
+        assert page.run(order) == wanted and len(wanted) == 24
+    assert [it.get_attribute("data-words") for it in page.all("#ticks .tag")] == ["veto"]
+    assert page.all('#ticks label[data-chair="1"] .tag')
+
+
+def test_answers(small: Page) -> None:
+    # Catches: a group that doesn't carry or block, one that is larger than another, or a button that ticks others.
+    for majority in MAJORITIES:
+        fewest = {
+            "alone": BOARD.vetoes(majority) or [],
+            "block": BOARD.fewest_blockers(majority),
+            "carry": BOARD.smallest_of_any(majority, False, None)[0],
+        }
+        for question, chairs in fewest.items():
+            cell = f'#answers tr[data-question="{question}"] td[data-majority="{majority}"]'
+            if not chairs:
+                assert small.text(cell) in ("no chair", "no others")
+                continue
+            small.click(f"#answer-{question}-{majority}")
+            found = ticked(small)
+            assert len(found) == len(chairs)
+            assert question != "alone" or found == tuple(chairs)
+            assert BOARD.wins(majority, found) if question == "carry" else BOARD.blocks(majority, found)
+            assert question != "block" or not set(found) & set(BOARD.vetoes(majority) or [])
 
 
 def sizes(page: Page) -> list[list[str]]:
@@ -293,8 +386,11 @@ def test_marks(small: Page) -> None:
     parts = dict(zip([part for part, _ in small.run(VERDICTS)], small.run(marks, "#verdict-table tbody th")))
     assert {part for part, mark in parts.items() if mark == "counted"} == {"quota", "least"}
     assert set(parts.values()) == {"counted", "made here"}
+    # What is made here as a whole says so once.
+    assert small.text("#smallest-table caption") == "With 1 Harbours (made here)"
+    assert small.text("#smallest-words").endswith(" (made here).")
     for table in ["#smallest-table", "#smallest-list"]:
-        assert set(small.run(marks, f"{table} thead th")) == {"made here"}
+        assert set(small.run(marks, f"{table} thead th")) == {""}
     assert small.run(marks, "#size-table thead th") == ["", *["made here"] * (1 + 3 * len(MAJORITIES))]
     assert small.run(marks, "#size-table tfoot th") == ["made here", "counted"]
 

@@ -7,7 +7,7 @@ from pathlib import Path
 
 import pytest
 from chromium import EVERY, NARROW, POSTED, Page
-from figures import open_chair, rows, shown_majorities
+from figures import open_chair, remove_all, rows, shown_majorities
 from oracle import MAJORITIES, UNSHOWN, Oracle, text_of
 from rounding import exact, rounded
 from selenium.webdriver.common.keys import Keys
@@ -40,7 +40,7 @@ def keep(page: Page, scenarios: dict[str, list[str]]) -> None:
         for it in commands:
             assert page.act(*it.split(","))
         page.write("#scenario-name", name)
-        page.click("#clear-changes")
+        remove_all(page)
 
 
 def carry_out(page: Page, commands: list[str]) -> None:
@@ -328,7 +328,7 @@ def test_an_edit_beside_eight_scenarios(page: Page) -> None:
         page.click(f"#at-{it}")
     page.run(POSTED)
     alone = posted(page, 300_000)
-    page.click("#clear-changes")
+    remove_all(page)
     keep(page, {f"Reform {it}": [f"votes,XA{letter},{it}00000"] for it, letter in enumerate("ABCDEFGH", 1)})
     page.choose("#columns", "scenarios")
     page.until(lambda: len(page.run(TITLES)) == 8, "all scenarios")

@@ -13,9 +13,10 @@ from typing import Any
 import pytest
 from chromium import EVERY, Page
 from firefox import Driver
-from oracle import MAJORITIES, UNSHOWN, Oracle
+from oracle import MAJORITIES, UNSHOWN, Oracle, text_of
 from selenium.webdriver.common.keys import Keys
 from test_exports import COMMANDS, sha256
+from test_said import opened
 
 BROWSERS = EVERY
 INCH = 25.4
@@ -342,3 +343,29 @@ def test_figure_in_grey(study: Page) -> None:
     for colour in [*shapes, *(it.get("fill", "") for it in root.iter(f"{SVG}text") if it.get("fill"))]:
         red, green, blue = (int(str(colour)[at : at + 2], 16) / 255 for at in (1, 3, 5))
         assert 0.2126 * red + 0.7152 * green + 0.0722 * blue < 0.42, colour
+
+
+def test_tags_in_a_narrow_figure(page: Page) -> None:
+    # Catches: a chair that lost its veto and has no power elsewhere, of which a narrow figure shows the first alone.
+    rows = ["AAA,Northern Alland,80,1", "BBB,Southern Belland,20,2", "CCC,Western Celland,1,3"]
+    opened(page, text_of(["code,name,votes,chair", *rows]))
+    assert page.act("votes", "BBB", "10")
+    choose(page, "single", "mono")
+    svg = svg_file(page)
+    page.press(Keys.ESCAPE)
+    [row] = [it for it in rows_of_figure(svg) if it[0] == "2"]
+    assert row[1:] == ["0", "− V"]
+    legend = "".join(ElementTree.fromstring(svg).itertext())
+    assert "V: veto, nothing passes without it" in legend and "0: no power, no outcome depends on it" in legend
+    assert not page.run(BEYOND, svg)
+    # Where there is room the words are whole.
+    choose(page, "slide", "sans")
+    [row] = [it for it in rows_of_figure(svg_file(page)) if it[0] == "2"]
+    assert row[1:] == ["no power", "loses veto"]
+
+
+def rows_of_figure(svg: str) -> list[list[str]]:
+    """The chair of each row of a figure, and the texts after its name."""
+    groups = [it for it in ElementTree.fromstring(svg).iter(f"{SVG}g") if it.get("data-chair")]
+    texts = [["".join(text.itertext()) for text in it.findall(f"{SVG}text")] for it in groups]
+    return [[str(it.get("data-chair")), *own[1:]] for it, own in zip(groups, texts)]

@@ -74,8 +74,10 @@ def test_decimals(changed: Page, oracle: Oracle, measure: str, digits: int) -> N
 
 def test_order_by_gain(changed: Page, oracle: Oracle) -> None:
     # Catches: an order by number's text, by the absolute gain, or at a majority other than the named one.
-    changed.choose("#order", "gain")
-    changed.choose("#order-at", "85")
+    changed.click("#tab-table")
+    changed.click("#head-gain-85")
+    assert changed.at("#head-gain-85").get_attribute("aria-pressed") == "true"
+    changed.click("#tab-power")
     by_gain = sorted(gains(oracle, COMMANDS, "85").items(), key=lambda it: (-it[1], it[0]))
     assert list(rows(changed)) == [chair for chair, _ in by_gain]
     assert drawn_chairs(changed) == list(rows(changed))

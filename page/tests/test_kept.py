@@ -54,7 +54,7 @@ def reopened(page: Page, name: str, content: bytes, folder: Path) -> None:
 def test_any_study_can_be_saved(page: Page, way: str, tmp_path: Path) -> None:
     # Catches: a saved study that can't be opened, since a name is long or has marks, or loses scenarios and its sweep.
     opened(page, NAMES)
-    for act in [["votes", "AAA", "+12.5%"], ["move", "BBB", "none"], ["suspend", "CCC"], ["suspend", "CCC"]]:
+    for act in [["votes", "AAA", "+12.5%"], ["move", "BBB", "none"], ["suspend", "CCC"], ["move", "CCC", "1"]]:
         assert page.act(*act)
     page.write("#published", "281474976710656")
     page.write("#scenario-name", 'A "name"; ñ')
@@ -106,6 +106,8 @@ def test_file_of_another_study(page: Page, tmp_path: Path) -> None:
     page.at("#file").send_keys(f"{tmp_path / 'it.study.json'}\n{tmp_path / 'it.csv'}")
     page.until(lambda: page.all("#refusal"), "the sentence")
     assert "The file's study is shown." in page.text("#refusal") and "stays as it was" not in page.text("#refusal")
+    # What was done has no heading that says that it can't be.
+    assert page.text("#refusal h2") == "These files are of two studies"
     assert len(page.all("#changes > li")) == 1
 
 

@@ -76,7 +76,7 @@ def test_elements_of_other_tabs_stay(page: Page) -> None:
 def test_typed_text_stays(page: Page) -> None:
     # Catches: a scenario's name, a sweep's field or a refused number that is lost to an act somewhere else.
     assert page.act("votes", "XAD", "+40%")
-    page.at("#scenario-name").send_keys("Half a na")
+    page.reach("#scenario-name").send_keys("Half a na")
     page.click("#at-70")
     page.click("#on-1")
     page.click("#tab-curve")
@@ -115,7 +115,7 @@ def test_sentences_are_heard_once(page: Page) -> None:
     page.run(WATCH)
     for tab in ["#tab-change", "#tab-table", "#tab-power"]:
         page.click(tab)
-    page.choose("#order", "number")
+    page.click("#sort-number")
     assert page.run("return heard;") == 0
     assert page.act("votes", "XAD", "300000")
     assert page.run("return heard;") > 0
@@ -143,7 +143,7 @@ def test_rows_move_whole(page: Page) -> None:
     # Catches: a row that shows another chair's members after the order of rows has changed.
     page.click("#card-2")
     page.run(MARK)
-    page.choose("#order", "number")
+    page.click("#sort-number")
     assert drawn_chairs(page) == list(range(1, 25))
     assert page.run("return marked.has(document.getElementById('card-2'));")
     assert page.texts("[data-place='2'] .chip span:first-child") == ["XAB Roswick"]

@@ -7,6 +7,7 @@ from pathlib import Path
 from random import Random
 
 from chromium import Page
+from figures import remove_all
 from layouts import HEAD, LAYOUTS, Block, drawn_board, rows_of, text_of
 from oracle import Oracle
 from test_layouts import answered
@@ -63,8 +64,11 @@ class Day:
         """Who has most power, at four majorities?"""
         for majority in ("70", "quorum"):
             self.page.click(f"#at-{majority}")
+        for majority in ("half", "70", "85", "quorum"):
+            self.page.click(f"#sort-power-{majority}")
+            assert self.page.at(f"#sort-power-{majority}").get_attribute("aria-pressed") == "true"
         said = self.page.texts("#sentences p")
-        assert len(said) == 4 and all("largest share of power" in it or "has a veto" in it for it in said)
+        assert len(said) == 4 and all(" a veto" in it or "vetoes" in it for it in said)
 
     def two_chairs_as_one(self) -> None:
         """Two chairs as one."""
@@ -73,7 +77,7 @@ class Day:
 
     def more_for_six(self) -> None:
         """40 per cent more for six members."""
-        self.page.click("#clear-changes")
+        remove_all(self.page)
         tick(self.page, self.small[:6])
         self.page.write("#group-percent", "+40")
         assert changes(self.page) == 1
@@ -81,7 +85,7 @@ class Day:
 
     def six_points(self) -> None:
         """6 per cent of the total move to them, and the total stays."""
-        self.page.click("#clear-changes")
+        remove_all(self.page)
         tick(self.page, self.small[:6])
         self.page.choose("#group-others", "pay")
         self.page.write("#group-share", "+6")
@@ -123,7 +127,7 @@ class Day:
 
     def from_how_many(self) -> None:
         """From how many votes has a chair a veto at 85 per cent?"""
-        self.page.click("#clear-changes")
+        remove_all(self.page)
         self.page.click("#tab-curve")
         self.page.click("#find-open")
         self.page.choose("#find-who", "1")

@@ -63,8 +63,8 @@ def test_names_from_right_to_left(page: Page) -> None:
 def test_a_tie_has_no_winner(page: Page) -> None:
     # Catches: the first of several equal chairs that is called the greatest, or the one that gains most.
     opened(page, SEVEN)
-    chairs = "chairs 1 Aland, 2 Bland, 3 Cland and 4 more"
-    assert f"{chairs} have the largest share of power, each the same: 14.29 %." in page.text("#sentences")
+    few = "At a simple majority, no chair has a veto: at least 4 chairs are needed to carry, and 4 to block."
+    assert page.texts("#sentences p")[0] == few
     assert page.act("suspend", "AAA")
     gain, loss = "+2.38 percentage points each", "chair 1 Aland loses most, -14.29 percentage points."
     assert f"chairs 2 Bland, 3 Cland, 4 Dland and 3 more gain most, {gain}; {loss}" in page.text("#sentences")
@@ -143,12 +143,10 @@ def test_sources_and_definitions_stand_where_they_are_used(page: Page) -> None:
     assert title in page.texts("#foot dt")
     page.click("#tab-table")
     assert "Each number is rounded alone." in page.text("#panel")
-    # At 85 per cent the sentence begins with the example's veto.
-    page.click("#at-85")
-    named = {"prevent": "the largest power to prevent action", "banzhaf": "the largest Banzhaf measure"}
-    for measure, words in named.items():
+    assert page.act("votes", "XAB", "300000")
+    for measure, words in {"prevent": "power to prevent action", "banzhaf": "Banzhaf measure"}.items():
         page.choose("#measure", measure)
-        assert [words in it for it in page.texts("#sentences p")] == [True]
+        assert all(f" in {words}: " in it.replace("In ", " in ") for it in page.texts("#sentences p"))
 
 
 def test_citation(page: Page) -> None:

@@ -7,7 +7,7 @@ from typing import Any
 import inputs
 import pytest
 from chromium import ACTS, Page
-from figures import check_figures, gains, lowest, shown_majorities
+from figures import check_figures, gains, lowest, remove_all, shown_majorities
 from member_tables import MOST_VOTES, register_of
 from oracle import Oracle, least
 from replay_output import Chair, Ratio
@@ -125,7 +125,7 @@ def test_scenarios(page: Page, oracle: Oracle) -> None:
     page.write("#scenario-name", "More votes")
     assert page.act("move", "XAA", "2")
     page.write("#scenario-name", "A move")
-    page.click("#clear-changes")
+    remove_all(page)
     assert not page.all("#changes > li")
     page.until(lambda: "counting" not in page.text("#scenarios"), "the scenarios")
     names = oracle.table.chair_names
@@ -147,7 +147,7 @@ def test_scenarios(page: Page, oracle: Oracle) -> None:
 def test_csv_of_a_scenario_just_kept(page: Page, oracle: Oracle) -> None:
     # Catches: a scenario that is left out of the table, without a word, since it isn't counted yet.
     assert page.act("votes", "XAD", "318104")
-    page.at("#scenario-name").send_keys("More votes")
+    page.reach("#scenario-name").send_keys("More votes")
     keep = 'document.getElementById("scenario-keep").click();'
     csv = page.wait_for(keep + ACTS, "exported", "export-csv")
     wanted = {"More votes": ["votes,XAD,318104"], "changed": ["votes,XAD,318104"]}
@@ -158,6 +158,7 @@ def test_best_move(page: Page, oracle: Oracle) -> None:
     # Catches: a ranking by votes, a member that is tried where it sits, or numbers of the base.
     page.click("#best-open")
     page.choose("#best-chair", "5")
+    page.click("#best-empty")
     page.choose("#best-at", "85")
     page.click("#best-run")
     page.until(lambda: page.all("#best-table"), "the moves")
@@ -224,6 +225,7 @@ def test_a_changed_file(page: Page) -> None:
             page.until(lambda: page.all("#refusal"), "what is wrong")
         said = page.text("#refusal") if page.all("#refusal") else ""
         assert ("no longer has the hash" in said) == (name in ("other", "twice")), (name, said)
+        assert said.startswith("This study was changed after it was saved") == (name in ("other", "twice"))
         assert ("breaks off before its end" in said) == (name == "cut"), (name, said)
         page.run("document.querySelector('dialog .close')?.click();")
         ids = page.run("return [...document.querySelectorAll('#changes > li')].map((it) => it.dataset.id);")

@@ -175,9 +175,8 @@ def test_latex(study: Page, oracle: Oracle) -> None:
 
 def test_latex_fractions_and_order(study: Page, oracle: Oracle) -> None:
     # Catches: a table that isn't the one shown: other words, another order, decimals in place of fractions.
-    study.choose("#order", "power")
-    study.choose("#order-at", "half")
     study.click("#tab-table")
+    study.click("#head-power-half")
     study.click("#toggle-fractions")
     shown = study.run(
         """return [...document.querySelectorAll("#chair-table tbody tr")].map(
@@ -212,7 +211,7 @@ def test_latex_source(study: Page, oracle: Oracle) -> None:
 def test_latex_names(page: Page) -> None:
     # Catches: a name that ends a cell, begins a comment or a command, or comes out as another name.
     named(page, HOSTILE)
-    page.choose("#order", "number")
+    page.click("#sort-number")
     table = tex_table(page)
     assert [it[1] for it in table.rows] == [" ".join(it.split()) for it in HOSTILE]
     text = str(page.act("exported", "export-tex"))

@@ -479,7 +479,8 @@ def test_save_it_cleaned(page: Page) -> None:
     first = records(page)
     paste(page, content.decode())
     assert not page.all("#table-dialog fieldset") and not page.texts("#table-notices li")
-    take(page)
+    # Two pasted tables have two names.
+    take(page, "Pasted table 2")
     assert records(page) == first and not page.texts("#choices li")
 
 

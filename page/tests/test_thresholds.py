@@ -3,16 +3,18 @@ from __future__ import annotations
 
 import hashlib
 from collections.abc import Callable
+from fractions import Fraction
 
 import pytest
 from chromium import EVERY, NARROW, Page
-from figures import open_menu
+from figures import measure_of, open_menu
 from member_tables import MOST_VOTES
-from oracle import MAJORITIES, UNSHOWN, Oracle, least
+from oracle import MAJORITIES, UNSHOWN, Oracle, least, text_of
 from replay_output import Ratio
 from rounding import exact, rounded
 from selenium.webdriver.common.keys import Keys
 from test_access import tab_to
+from test_said import opened
 from test_studies import is_one
 
 BROWSERS = EVERY
@@ -108,6 +110,67 @@ def test_by_another_bisection(page: Page, oracle: Oracle) -> None:
     for (majority, what), cells in found(page).items():
         holds = truth(oracle, [], "5", 5, majority, what)
         assert cells[0][0] == f"{least(holds, 0, MOST_VOTES):,}"
+
+
+@pytest.mark.parametrize(("measure", "least"), [("share", "5"), ("banzhaf", "0.25"), ("swings", "1,000,000")])
+def test_votes_for_a_power(page: Page, oracle: Oracle, measure: str, least: str) -> None:
+    # Catches: a power of another measure or chair, one that is a vote off, and one that isn't the first.
+    page.choose("#measure", measure)
+    page.click("#card-5")
+    page.click("#find-5")
+    page.until(lambda: page.all("#find-table"), "the thresholds")
+    page.write("#find-power", least)
+    page.until(lambda: page.all('#find-table tr[data-what="reaches"]'), "the power")
+    asked = Fraction(least.replace(",", ""))
+    for majority in ["half", "85"]:
+
+        def has(votes: int) -> bool:
+            chairs = oracle.output(commands(oracle, [], "5", votes), [majority]).readings[0].chairs
+            own = next(it for it in chairs if it.chair == 5)
+            value = measure_of(own, measure)
+            return value is not None and (100 if measure == "share" else 1) * exact(value) >= asked
+
+        [cells] = [cells for (at, what), cells in found(page).items() if (at, what) == (majority, "reaches")]
+        votes = int(cells[0][0].replace(",", ""))
+        assert cells[1][0] == f"{votes - 1:,}" and [has(votes - 1), has(votes)] == [False, True]
+        # More votes keep it, by some numbers of them.
+        assert all(has(it) for it in (votes + 1, 2 * votes, 5 * votes, MOST_VOTES))
+    words = page.texts("#find-table tr[data-what='reaches'] th")
+    wanted = {"share": "has a share of power of at least 5 %", "banzhaf": "has a Banzhaf measure of at least 0.25"}
+    assert words == [wanted.get(measure, "has at least 1,000,000 swings")] * 2
+    assert not page.all('#find-table tr[data-what="keeps"]')
+
+
+def test_a_share_of_power_that_falls(page: Page) -> None:
+    # Catches: a share of power of 27 per cent that is said to stay from 29 votes on. Of six chairs with 29, 7, 7, 10, 1
+    # and 12 votes, the first has 6 of 22 swings at 85 per cent; with 30 votes it has 7 of 26, which is less.
+    votes = [29, 7, 7, 10, 1, 12]
+    rows = [f"AA{chr(65 + at)},{it},{at + 1}" for at, it in enumerate(votes)]
+    opened(page, text_of(["code,votes,chair", *rows]))
+    page.click("#card-1")
+    page.click("#find-1")
+    page.until(lambda: page.all("#find-table"), "the thresholds")
+    page.write("#find-power", "27 %")
+    page.until(lambda: page.all('#find-table tr[data-what="keeps"]'), "the power")
+    cells = found(page)
+    first, last = (cells[("85", it)][0][0] for it in ("reaches", "keeps"))
+    assert int(first) <= 29 and int(last) > 30
+    words = [it for it in page.texts("#find-table tr th") if "27 %" in it]
+    assert words[-2:] == ["first has a share of power of at least 27 %", "always has a share of power of at least 27 %"]
+
+
+def test_a_power_that_is_none(page: Page) -> None:
+    # Catches: a power above all, or words, that is asked for, and an answer to the power before under another one.
+    page.click("#card-5")
+    page.click("#find-5")
+    page.until(lambda: page.all("#find-table"), "the thresholds")
+    page.write("#find-power", "5")
+    page.until(lambda: page.all('#find-table tr[data-what="reaches"]'), "the power")
+    page.write("#find-power", "101")
+    assert page.text("#find-power-wrong") == "There is no share of power above 100 %."
+    assert not page.all("#find-table")
+    page.write("#find-power", "much")
+    assert "isn't a percentage" in page.text("#find-power-wrong")
 
 
 def test_copied(page: Page, oracle: Oracle) -> None:

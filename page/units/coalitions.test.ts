@@ -5,8 +5,8 @@ import { test } from "node:test";
 import { indices } from "../../bindings/javascript/src/indices";
 import { loadSync } from "../../bindings/javascript/src/load";
 import {
-  blockingRule, checkOf, coalitionsBySize, fewestToBlock, fewestToWin, ruleWithout, smallestWith, subsetsWithout,
-  verdictOf, vetoChairs, winningBySize,
+  blockingRule, checkOf, coalitionsBySize, fewestToBlock, fewestToWin, minimalBlocking, minimalWinning, minimalWith,
+  ruleWithout, smallestWith, subsetsAbove, subsetsWithout, verdictOf, vetoChairs, winningBySize,
   type Rule,
 } from "../src/engine/coalitions";
 import { Subsets } from "../src/engine/subsets";
@@ -248,4 +248,36 @@ test("the smallest coalitions of any chairs, without one of them, and the fewest
     }
   }
   assert.ok(found > 6000, String(found));
+});
+
+test("the smallest coalitions that need each of their chairs", () => {
+  // Catches: a chair that blocks nothing and is listed beside one that blocks alone, and a number that isn't of these.
+  let found = 0;
+  for (const { board, majority } of EACH.filter((it) => it.board.votes.length && it.board.votes.length < 9)) {
+    const rule = ruleOf(board, majority);
+    const last = 2 ** board.votes.length - 1;
+    const wins = (bits: number) => isWinning(board, majority, coalition(board, bits));
+    const blocks = (bits: number) => !wins(bits ^ last);
+    const kinds = [[wins, minimalWinning], [blocks, minimalBlocking]] as const;
+    for (const [holds, minimalOf] of kinds) {
+      const minimal = all(board).flatMap(({ places }, bits) =>
+        holds(bits) && places.every((at) => !holds(bits ^ (1 << at))) ? [places.map((at) => board.numbers[at]!)] : []);
+      for (const without of [null, board.numbers[0]!]) {
+        for (const chair of board.numbers.filter((it) => it !== without)) {
+          const own = minimal.filter((it) => it.includes(chair) && !(without !== null && it.includes(without)));
+          const size = Math.min(...own.map((it) => it.length));
+          const wanted = own.filter((it) => it.length === size);
+          const word = (it: readonly number[]) => String.fromCharCode(...it);
+          const first = [...wanted].sort((left, right) => (word(left) < word(right) ? -1 : 1)).slice(0, 3);
+          const its = minimalOf(rule, without);
+          const others = its.chairs.map((it) => ({ ...it }));
+          const smallest = minimalWith(its, chair, subsetsAbove(others, chair), 3);
+          const about = JSON.stringify([board, majority, chair, without]);
+          assert.deepEqual(smallest, wanted.length ? { size, many: wanted.length, first } : null, about);
+          found += 1;
+        }
+      }
+    }
+  }
+  assert.ok(found > 5000, String(found));
 });

@@ -39,6 +39,7 @@ const SCRIPT = scriptOf([[90, 1], [70, 1], [60, 2], [50, 3], [45, 3], [40, 4], [
 const SWEEP: SweepAsked = {
   who: { kind: "chair", chair: 3 }, on: "base", unit: "percent", from: "1", to: "80", by: "0.5",
 };
+const ASKED = { who: SWEEP.who, on: SWEEP.on, other: 1, power: { measure: "share", least: "5" } } as const;
 await new Hand().ask("module", readFileSync(process.env["MODULE"] ?? "")).answer;
 
 function scriptOf(members: readonly (readonly [number, number])[]): string {
@@ -95,7 +96,7 @@ test("moves and thresholds by several workers", async () => {
     const codes = ["AAA", "AAB", "AAE", "AAJ"];
     const ask = { codes, chairs: [1, 2, 3, 4, 5, 6, 7], majority: "85", measure: "share" } as const;
     const moves = await movesOver(pool, place, ask, NO_REPORT).answer;
-    return [moves, await thresholdsOver(pool, place, MAJORITIES, SWEEP.who, 1, NO_REPORT).answer];
+    return [moves, await thresholdsOver(pool, place, MAJORITIES, ASKED, NO_REPORT).answer];
   }));
   assert.deepEqual(found[0], found[1]);
 });
@@ -118,7 +119,7 @@ test("Cancel of moves and thresholds, also once they are over", async () => {
   const ask = { codes: ["AAA", "AAB"], chairs: [1, 2, 3, 4, 5], majority: "85", measure: "share" } as const;
   const begin = [
     (report: Report) => movesOver(pool, place, ask, report),
-    (report: Report) => thresholdsOver(pool, place, MAJORITIES, SWEEP.who, 1, report),
+    (report: Report) => thresholdsOver(pool, place, MAJORITIES, ASKED, report),
   ];
   for (const it of begin) {
     const { answer, cancel } = it(() => cancel());

@@ -9,7 +9,7 @@ import {
 import type { Line } from "../engine/columns";
 import type { ChairRow } from "../engine/compare";
 import { difference, type Ratio } from "../study/fractions";
-import { fullWords, meanings, tagsOf, type Tag } from "../engine/kinds";
+import { fullWords, lettered, meanings, tagsOf, type Tag } from "../engine/kinds";
 import { measureOf, type ChairReading } from "../engine/reading";
 import { MEASURE, type Majority, type Measure } from "../study/words";
 
@@ -82,12 +82,8 @@ function scalesOf(all: readonly Drawn[], { places }: Panels, isGain: boolean): L
   return places.map(([left, right]) => scaleLinear().domain([from, to]).range([left, right]).nice(5));
 }
 
-/** The tags of a row: in full words, or where names would be cut, in short ones, and then the most important alone. */
-const FORMS: readonly ((tags: readonly Tag[]) => readonly Tag[])[] = [
-  (tags) => tags.map((it) => ({ ...it, words: fullWords(it) })),
-  (tags) => tags,
-  (tags) => [...tags].sort((one, other) => Number(one.turn === "") - Number(other.turn === "")).slice(0, 1),
-];
+/** A tag in full words, and where names would be cut in short ones, or in a letter. */
+const FORMS: readonly ((tag: Tag) => Tag)[] = [(it) => ({ ...it, words: fullWords(it) }), (it) => it, lettered];
 
 /** A line with its tags. */
 interface Tagged extends Line {
@@ -97,7 +93,7 @@ interface Tagged extends Line {
 /** The lines with the longest tags beside which names have room. */
 function taggedLines({ lines }: ChairModel, look: Look): Tagged[] {
   const forms = FORMS.map((form) =>
-    lines.map((it) => ({ ...it, tags: form(tagsOf(it.cells[it.cells.length - 1]?.at ?? new Map())) })));
+    lines.map((it) => ({ ...it, tags: tagsOf(it.cells[it.cells.length - 1]?.at ?? new Map()).map(form) })));
   return forms.find((it) => haveRoom(it, look)) ?? forms[forms.length - 1] ?? [];
 }
 

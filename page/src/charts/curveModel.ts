@@ -13,7 +13,7 @@ import { MAJORITY, MEASURE } from "../study/words";
 
 /** The label of a threshold on the picture. */
 const SHORT: Readonly<Record<Statement, string>> = {
-  prevents: "veto", carries: "alone", counts: "power", leads: "more swings",
+  prevents: "veto", carries: "alone", counts: "power", leads: "more swings", reaches: "reaches", keeps: "keeps",
 };
 
 export const STATEMENT_WORDS: Readonly<Record<Statement, string>> = {
@@ -21,6 +21,8 @@ export const STATEMENT_WORDS: Readonly<Record<Statement, string>> = {
   carries: "carries everything alone",
   counts: "has any power",
   leads: "has more swings",
+  reaches: "first has",
+  keeps: "always has",
 };
 
 /** A share of the total in words. */

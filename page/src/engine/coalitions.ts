@@ -190,6 +190,99 @@ export function smallestWith(rule: Rule, chair: number | null, subsets: Subsets,
   return { size: size + own.length, many, first: whole };
 }
 
+/** What the coalitions of a size need, each of whose chairs is needed: votes from `low` on, and less than `high`
+ * without the chair that has the fewest. */
+interface Needed {
+  readonly low: number;
+  readonly high: number;
+}
+
+/** The chairs of minimal coalitions, and what they need by size; null for a size that none has. */
+export interface Minimal {
+  readonly chairs: readonly Voter[];
+  needed(size: number): Needed | null;
+}
+
+/** The minimal winning coalitions: each loses without any of its chairs. One chair may be left out of them. */
+export function minimalWinning(rule: Rule, without: number | null): Minimal {
+  const { chairs, quota, leastSize } = ruleWithout(rule, without);
+  const needed = (size: number) => {
+    return size < leastSize ? null : { low: quota, high: size === leastSize ? Infinity : quota };
+  };
+  return { chairs, needed };
+}
+
+/** The minimal blocking coalitions: each no longer blocks without any of its chairs. */
+export function minimalBlocking({ chairs, quota, leastSize }: Rule, without: number | null): Minimal {
+  const votes = votesOf(chairs) - quota + 1;
+  const most = leastSize ? chairs.length - leastSize + 1 : Infinity;
+  const needed = (size: number) => (size > most ? null : { low: size === most ? -Infinity : votes, high: votes });
+  return { chairs: chairs.filter((it) => it.chair !== without), needed };
+}
+
+/** The subsets of the chairs with at least as many votes as each that isn't above some chair, without that chair. */
+export interface Above {
+  readonly lowest: Voter;
+  readonly subsets: Subsets;
+}
+
+/** The subsets that minimal coalitions with a chair are made of. */
+export function subsetsAbove(voters: readonly Voter[], chair: number): Above[] {
+  const rising = [...voters].sort((left, right) => left.weight - right.weight);
+  const own = rising.findIndex((it) => it.chair === chair);
+  return rising.slice(0, own + 1).map((lowest, at) => {
+    return { lowest, subsets: subsetsWithout(rising.slice(at + 1), chair) };
+  });
+}
+
+/** How many minimal coalitions of a size have a chair: counted by the chair that has the fewest votes in them. */
+function manyMinimal(own: Voter, size: number, { low, high }: Needed, above: readonly Above[], all: Subsets): number {
+  if (high === Infinity) return all.atLeast(size - 1, low - own.weight);
+  return above.reduce((sum, { lowest, subsets }) => {
+    const [others, votes] = lowest.chair === own.chair ? [size - 1, 0] : [size - 2, own.weight];
+    if (others < 0) return sum;
+    return sum + subsets.atLeast(others, low - lowest.weight - votes) - subsets.atLeast(others, high - votes);
+  }, 0);
+}
+
+/** Whether each chair of a coalition is needed for its votes. */
+function isMinimal(voters: readonly Voter[], { low, high }: Needed): boolean {
+  const votes = votesOf(voters);
+  return votes >= low && votes - Math.min(...voters.map((it) => it.weight)) < high;
+}
+
+/** The minimal coalitions of a size with a chair, in order of their chairs' numbers. */
+function* minimalInOrder({ chairs }: Minimal, own: Voter, size: number, needed: Needed): Generator<readonly number[]> {
+  const most = chairs.map((_, at) => mostVotes(chairs.slice(at)));
+  const least = chairs.map((_, at) => mostVotes(chairs.slice(at).map((it) => ({ ...it, weight: -it.weight }))));
+  function* from(start: number, some: readonly Voter[]): Generator<readonly number[]> {
+    const missing = size - some.length;
+    if (missing === 0 && some.includes(own) && isMinimal(some, needed)) yield numbers(some);
+    const [votes, fewest] = [votesOf(some), Math.min(own.weight, ...some.map((it) => it.weight))];
+    for (let at = start; missing > 0 && at + missing <= chairs.length; at += 1) {
+      const voter = chairs[at] as Voter;
+      const isMissed = voter.chair > own.chair && !some.includes(own);
+      if (isMissed || votes + (most[at]?.[missing] ?? 0) < needed.low) return;
+      if (votes - (least[at]?.[missing] ?? 0) - fewest < needed.high) yield* from(at + 1, [...some, voter]);
+    }
+  }
+  yield* from(0, []);
+}
+
+/** The minimal coalitions with a chair that have the fewest chairs, the first of them up to some number; null if
+ * there are none. */
+export function minimalWith(minimal: Minimal, chair: number, above: readonly Above[], most: number): Smallest | null {
+  const own = minimal.chairs.find((it) => it.chair === chair);
+  if (!own) return null;
+  const all = subsetsWithout(minimal.chairs, chair);
+  for (let size = 1; size <= minimal.chairs.length; size += 1) {
+    const needed = minimal.needed(size);
+    const many = needed ? manyMinimal(own, size, needed, above, all) : 0;
+    if (needed && many) return { size, many, first: firstOf(minimalInOrder(minimal, own, size, needed), most) };
+  }
+  return null;
+}
+
 /** Whether the winning coalitions of all sizes are together as many as the register counts. */
 export function checkOf(counted: number, bySize: readonly number[]): { readonly sum: number; readonly holds: boolean } {
   const sum = bySize.reduce((all, it) => all + it, 0);

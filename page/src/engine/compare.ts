@@ -2,7 +2,8 @@
 import { MEASURE_NAMES } from "../cited";
 import type { Counted } from "./count";
 import { compared, difference, fractionText, grouped, percent, rounded, signed, type Ratio } from "../study/fractions";
-import { chairIn, measureOf, voteShare, type ChairReading, type Readings } from "./reading";
+import { fewestToBlock, fewestToWin } from "./coalitions";
+import { chairIn, measureOf, voteShare, type ChairReading, type Reading, type Readings } from "./reading";
 import { chairsWords, namedChair, said, type Said } from "./said";
 import { chairKey, type Standing } from "./standing";
 import { leadOf, restOf } from "./vetoes";
@@ -213,40 +214,14 @@ function gainSentence(rows: readonly ChairRow[], view: View, majority: Majority,
     : { words: said("gains", words), source };
 }
 
-/** The greatest value of a measure, and the chairs that have it. */
-interface Greatest {
-  readonly most: Ratio;
-  readonly chairs: ChairRow[];
-}
-
-/** The chairs with the greatest measure. */
-function greatest(rows: readonly ChairRow[], view: View, majority: Majority): Greatest | null {
-  let found: Greatest | null = null;
-  for (const row of rows) {
-    const value = ratioOf(row.at.get(majority)?.after, view.measure);
-    if (!value) continue;
-    const order = found ? compared(value, found.most) : 1;
-    if (order > 0) found = { most: value, chairs: [row] };
-    else if (order === 0) found?.chairs.push(row);
-  }
-  return found;
-}
-
-/** The sentence on a base without changes: the chairs with the greatest measure. */
-function mostSentence(rows: readonly ChairRow[], view: View, majority: Majority): Said {
-  const found = greatest(rows, view, majority);
-  const [first, ...others] = found?.chairs ?? [];
-  if (!found || !first) return { words: "", source: "" };
-  const words = {
-    at: MAJORITY[majority].at,
-    measure: MEASURE_NAMES[view.measure],
-    chairs: chairsWords(found.chairs),
-    value: valueText(found.most, view.measure, view.digits),
-    votes: first.votesAfter ? said("votes", { share: `${percent(first.votesAfter, view.digits)} %` }) : "",
-  };
+/** The sentence on a base without vetoes: the fewest chairs that carry together, and that block. */
+function noVetoSentence(reading: Reading): Said {
+  const { majority } = reading;
+  const [carry, block] = [fewestToWin(reading), fewestToBlock(reading, [])].map((it) => String(it?.length ?? 0));
+  const name = majority === "quorum" ? "no_veto_quorum" : "no_veto";
   return {
-    words: said(others.length ? "most_several" : "most_one", words),
-    source: `counted: ${fractionText(found.most)}; votes, made here: ${fractionText(first.votesAfter)}`,
+    words: said(name, { at: MAJORITY[majority].at, carry: carry ?? "", block: block ?? "" }),
+    source: "counted: every PREVENT is below 1; made here, from votes: the fewest chairs",
   };
 }
 
@@ -268,7 +243,8 @@ export function sentences(rows: readonly ChairRow[], counted: Counted, view: Vie
     if (empty) return { words: empty, source: "counted: WINNING is 0" };
     const lead = leadOf(numbered, counted, majority);
     if (counted.isChanged) return gainSentence(rows, view, majority, lead);
-    const first = lead ?? mostSentence(rows, view, majority);
+    const reading = counted.after.get(majority);
+    const first = lead ?? (reading ? noVetoSentence(reading) : { words: "", source: "" });
     return { ...first, words: first.words + restOf(numbered, majority) };
   });
 }

@@ -1,6 +1,7 @@
 /** Studies and their counts: the page's side of the registers. */
 import {
-  MOST_BASES, type Board, type Orders, type Outcome, type Point, type Question, type Swept, type Tried, type Turns,
+  MOST_BASES, type Board, type Orders, type Outcome, type Point, type Power, type Question, type Swept, type Tried,
+  type Turns,
 } from "./orders";
 import type { Boards, Report, Task } from "./pool";
 import type { MemberRow } from "../../../bindings/javascript/src/tables";
@@ -52,11 +53,13 @@ export interface Curve extends Swept {
   readonly script: string;
 }
 
-/** A member or a chair whose thresholds are wanted on a board, and another chair to have more swings than, or null. */
+/** A member or a chair whose thresholds are wanted on a board; another chair to have more swings than, and a power to
+ * have, or null. */
 export interface ThresholdsAsked {
   readonly who: Who;
   readonly on: SweepAsked["on"];
   readonly other: number | null;
+  readonly power: Power | null;
 }
 
 /** Thresholds without a range, and the script that gives the readings on both sides of each. */
@@ -161,7 +164,7 @@ export class Counter {
     const isBase = asked.on === "base";
     const { base, majorities } = of;
     const place = await this.#place(base, isBase ? [] : changes);
-    const { answer, cancel } = thresholdsOver(this.boards, place, majorities, asked.who, asked.other, report);
+    const { answer, cancel } = thresholdsOver(this.boards, place, majorities, asked, report);
     const thresholds = answer.then(({ questions, found }): Thresholds => {
       const sides = found.turns.flatMap((it) => it.commands).map((commands) => ({ commands }));
       const script = sweepScript(base, isBase ? [] : of.commands, sides, majorities);

@@ -7,11 +7,11 @@ import { MAJORITY, type Majority } from "../study/words";
 /** The chair decides alone; nothing passes without it; or nothing depends on it. */
 export type Kind = "alone" | "veto" | "powerless";
 
-/** What stands at a chair's row, and what it means. */
-export const KIND: Readonly<Record<Kind, { tag: string; words: string }>> = {
-  alone: { tag: "alone", words: "decides everything by itself" },
-  veto: { tag: "veto", words: "nothing passes without it" },
-  powerless: { tag: "no power", words: "no outcome depends on it" },
+/** What stands at a chair's row, also where there is little room, and what it means. */
+export const KIND: Readonly<Record<Kind, { tag: string; letter: string; words: string }>> = {
+  alone: { tag: "alone", letter: "A", words: "decides everything by itself" },
+  veto: { tag: "veto", letter: "V", words: "nothing passes without it" },
+  powerless: { tag: "no power", letter: "0", words: "no outcome depends on it" },
 };
 
 const isOne = (ratio: Ratio | null) => ratio !== null && ratio.numerator === ratio.denominator;
@@ -80,15 +80,21 @@ export function kindWords(reading: Reading | undefined, chair: ChairReading | un
 
 /** What stands at a chair's row, and at which majorities. */
 export interface Tag {
+  readonly kind: Kind;
   readonly words: string;
   /** Whether a change gave it or took it. */
   readonly turn: "" | "gained" | "lost";
   readonly majorities: readonly Majority[];
 }
 
-/** What the words of some tags mean. */
-export function meanings(tags: readonly Tag[]): (typeof KIND)[Kind][] {
-  return Object.values(KIND).filter(({ tag }) => tags.some(({ words }) => words.endsWith(tag)));
+/** The words of some tags, and what they mean. */
+export function meanings(tags: readonly Tag[]): { tag: string; words: string }[] {
+  return (Object.keys(KIND) as Kind[]).flatMap((kind) => {
+    const { tag, letter, words } = KIND[kind];
+    const own = tags.filter((it) => it.kind === kind);
+    if (!own.length) return [];
+    return own.some((it) => it.words.endsWith(tag)) ? [{ tag, words }] : [{ tag: letter, words: `${tag}, ${words}` }];
+  });
 }
 
 /** A chair at a majority, before and after. */
@@ -100,10 +106,11 @@ interface Compared {
 /** The tag at a majority: a veto that a change gave or took, else the kind of power; null if there is none. */
 function tagAt({ before, after }: Compared): Omit<Tag, "majorities"> | null {
   if (before && after && hasVeto(before) !== hasVeto(after)) {
-    return hasVeto(after) ? { words: "+ veto", turn: "gained" } : { words: "− veto", turn: "lost" };
+    const kind = "veto";
+    return hasVeto(after) ? { kind, words: "+ veto", turn: "gained" } : { kind, words: "− veto", turn: "lost" };
   }
   const kind = kindOf(after);
-  return kind && { words: KIND[kind].tag, turn: "" };
+  return kind && { kind, words: KIND[kind].tag, turn: "" };
 }
 
 /** The tags of a chair, each with its majorities. */
@@ -124,6 +131,12 @@ const TURNS: Readonly<Record<string, string>> = { "+ veto": "gains veto", "− v
 /** The words of a tag, where they aren't short. */
 export function fullWords({ words }: Tag): string {
   return TURNS[words] ?? words;
+}
+
+/** A tag in a letter, with the sign of what a change did. */
+export function lettered(tag: Tag): Tag {
+  const { tag: word, letter } = KIND[tag.kind];
+  return { ...tag, words: tag.words.replace(word, letter) };
 }
 
 /** The tags of a chair for the cell of a table, such as `veto (85 per cent)`. */

@@ -56,14 +56,23 @@ export interface Point {
   readonly readings: readonly Reading[];
 }
 
-/** What is asked of a chair; "leads" is that it has more swings than another chair. */
-export type Statement = "prevents" | "carries" | "counts" | "leads";
+/** What is asked of a chair: "leads" is that it has more swings than another chair, "reaches" that it has some power,
+ * and "keeps" that it has this power with all greater votes, too. */
+export type Statement = "prevents" | "carries" | "counts" | "leads" | "reaches" | "keeps";
 
-/** Where a statement turns between two numbers of votes. `other` is the other chair of "leads". */
+/** A power that is asked for: the least value of a measure, as a plain decimal; of shares in per cent. */
+export interface Power {
+  readonly measure: Measure;
+  readonly least: string;
+}
+
+/** Where a statement turns between two numbers of votes. `other` is the other chair of "leads", and `power` what
+ * "reaches" and "keeps" speak of. */
 export interface Question {
   readonly majority: Majority;
   readonly what: Statement;
   readonly other: number | null;
+  readonly power: Power | null;
   readonly low: number;
   readonly high: number;
 }

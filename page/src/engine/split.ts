@@ -1,10 +1,11 @@
 /** Long orders, split into parts for several workers: sweeps, thresholds without a range, and single moves. */
 import { MEMBER_VOTES } from "../../../bindings/javascript/src/names";
+import type { ThresholdsAsked } from "./count";
 import { compared, over, ZERO } from "../study/fractions";
 import type { Board, Interval, Orders, Point, Question, Statement, Swept, Threshold, Tried, Turns } from "./orders";
 import { unpacked } from "./packed";
 import { inSteps, type Ask, type Boards, type Report, type Task } from "./pool";
-import type { SweepAsked, Who } from "../study/study";
+import type { SweepAsked } from "../study/study";
 import { valuesOf } from "./sweep";
 import { holds } from "./turns";
 import type { Majority } from "../study/words";
@@ -28,16 +29,18 @@ function intervals(many: number, { base }: Place): Interval[] {
 }
 
 const OF_SWEEPS: readonly Statement[] = ["prevents", "carries", "counts"];
+/** A statement on the chair alone. */
+const ALONE = { other: null, power: null };
 
 /** The neighbours among the points of a sweep between which statements turn. */
 function questionsOf(points: readonly Point[], chair: number, majorities: readonly Majority[]): Question[] {
   const asked = majorities.flatMap((majority, at) => OF_SWEEPS.map((what) => ({ majority, what, at })));
   return asked.flatMap(({ majority, what, at }) => {
-    const isTrue = (it: Point) => holds(it.readings[at], chair, what, null);
+    const isTrue = (it: Point) => holds(it.readings[at], chair, { what, ...ALONE });
     return points.slice(1).flatMap((after, place): Question[] => {
       const before = points[place];
       if (!before || isTrue(before) === isTrue(after)) return [];
-      return [{ majority, what, other: null, low: before.votes, high: after.votes }];
+      return [{ majority, what, ...ALONE, low: before.votes, high: after.votes }];
     });
   });
 }
@@ -77,10 +80,16 @@ export function sweepOver(
 /** All votes that a member may have. */
 const ANY_VOTES = { low: 0, high: MEMBER_VOTES };
 
-/** What is asked of a chair at a majority, with the statement on another chair if there is one. */
-function questionsAt(majority: Majority, other: number | null): Question[] {
-  const alone = OF_SWEEPS.map((what): Question => ({ majority, what, other: null, ...ANY_VOTES }));
-  return other === null ? alone : [...alone, { majority, what: "leads", other, ...ANY_VOTES }];
+/** What is asked of a chair at a majority, also of another chair and of a power if that is asked for. */
+function questionsAt(majority: Majority, { other, power }: ThresholdsAsked): Question[] {
+  const ask = (what: Statement, of: Partial<Question> = {}): Question => {
+    return { majority, what, ...ALONE, ...ANY_VOTES, ...of };
+  };
+  return [
+    ...OF_SWEEPS.map((it) => ask(it)),
+    ...other === null ? [] : [ask("leads", { other })],
+    ...power ? [ask("reaches", { power }), ask("keeps", { power })] : [],
+  ];
 }
 
 /** Finds where each statement begins to hold, from no votes to the most of a member, for each majority. */
@@ -88,17 +97,16 @@ export function thresholdsOver(
   boards: Boards,
   { base, board }: Place,
   majorities: readonly Majority[],
-  who: Who,
-  other: number | null,
+  asked: ThresholdsAsked,
   report: Report,
 ): Task<{ readonly questions: readonly Question[]; readonly found: Turns }> {
-  const asked = majorities.map((it) => questionsAt(it, other));
+  const each = majorities.map((it) => questionsAt(it, asked));
   return inSteps(async (step) => {
-    const orders = asked.map((questions) => ({ ...board, who, questions }));
+    const orders = each.map((questions) => ({ ...board, who: asked.who, questions }));
     const all = await step(boards.spread("turns", base, orders, report));
     const [first] = all;
     if (!first) throw new Error("no majority is shown");
-    return { questions: asked.flat(), found: { ...first, turns: all.flatMap((it) => it.turns) } };
+    return { questions: each.flat(), found: { ...first, turns: all.flatMap((it) => it.turns) } };
   });
 }
 

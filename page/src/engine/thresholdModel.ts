@@ -4,7 +4,8 @@ import type { Thresholds, ThresholdsAsked } from "./count";
 import { STATEMENT_WORDS, thresholdWords } from "../charts/curveModel";
 import { grouped, over, signed, type Ratio } from "../study/fractions";
 import { isolated } from "../study/names";
-import type { Statement } from "./orders";
+import { MEASURE_NAMES } from "../cited";
+import type { Power, Question, Statement, Turn } from "./orders";
 import type { Standing } from "./standing";
 import { MAJORITY, MOST_VOTES, type Majority } from "../study/words";
 
@@ -57,19 +58,42 @@ function distanceSentence(votes: number, now: number): string {
 }
 
 /** The words of a statement that doesn't turn between no votes and the most votes. */
-function everywhere(isTrue: boolean): string {
+function everywhere(what: Statement, isTrue: boolean, isKept: boolean): string {
+  if (what === "reaches" && isTrue && !isKept) return "with 0 votes already";
+  if (what === "keeps" && !isTrue) return "from no number of votes on";
   return isTrue ? "with any number of votes, even with 0" : `with no number of votes up to ${grouped(MOST_VOTES)}`;
 }
 
-/** The rows of all statements, by majority. */
+/** A power that is asked for, in words, such as "a share of power of at least 5 %". */
+export function powerWords({ measure, least }: Power): string {
+  const [whole = "", part] = least.split(".");
+  const number = grouped(BigInt(whole)) + (part ? `.${part}` : "");
+  return measure === "swings" ? `at least ${number} swings`
+    : `a ${MEASURE_NAMES[measure]} of at least ${number}${measure === "share" ? " %" : ""}`;
+}
+
+/** What a question says of a chair, in words. */
+function statementWords({ what, other, power }: Question, standing: Standing, isKept: boolean): string {
+  if (power) return `${isKept ? "has" : STATEMENT_WORDS[what]} ${powerWords(power)}`;
+  return STATEMENT_WORDS[what] + (other === null ? "" : ` than ${chairWords(standing, other)}`);
+}
+
+/** Whether two answers are the same. */
+function isSame(one: Turn | undefined, other: Turn | undefined): boolean {
+  return one?.isAtLow === other?.isAtLow && one?.votes === other?.votes;
+}
+
+/** The rows of all statements, by majority. What is reached and kept from the same votes on is one row. */
 export function thresholdRows({ questions, found, standing }: Thresholds, digits: number): ThresholdRow[] {
-  return questions.flatMap(({ majority, what, other }, at): ThresholdRow[] => {
+  return questions.flatMap((question, at): ThresholdRow[] => {
+    const { majority, what } = question;
     const turn = found.turns[at];
-    if (!turn) return [];
+    const isKept = isSame(turn, found.turns[what === "keeps" ? at - 1 : at + 1]);
+    if (!turn || (what === "keeps" && isKept)) return [];
     const { isAtLow, votes } = turn;
-    const words = STATEMENT_WORDS[what] + (other === null ? "" : ` than ${chairWords(standing, other)}`);
+    const words = statementWords(question, standing, isKept);
     if (votes === null) {
-      const short = everywhere(isAtLow);
+      const short = everywhere(what, isAtLow, isKept);
       const sentence = `${MAJORITY[majority].at} it ${words} ${short}.`;
       return [{ majority, what, words, votes, share: null, distance: "", sentence, short }];
     }

@@ -13,11 +13,14 @@ export interface Ticks {
   /** The chair that isn't in them, or null. */
   readonly without: number | null;
   readonly at: Majority | null;
-  /** Whether the list is of those that block. */
+  /** Whether the list is of those that block, and of those alone that need each of their chairs. */
   readonly isBlocking: boolean;
+  readonly isMinimal: boolean;
 }
 
-export const NO_TICKS: Ticks = { of: "", keys: new Set(), chair: null, without: null, at: null, isBlocking: false };
+export const NO_TICKS: Ticks = {
+  of: "", keys: new Set(), chair: null, without: null, at: null, isBlocking: false, isMinimal: true,
+};
 
 /** The open chairs by number, with their keys: a chair that was closed and opened again is another one. */
 function keysOf({ counted: { standing } }: Shown): Map<number, string> {

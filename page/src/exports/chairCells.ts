@@ -7,7 +7,7 @@ import {
 } from "../study/fractions";
 import { isolated } from "../study/names";
 import { measureOf, type ChairReading } from "../engine/reading";
-import type { Thing, View } from "../study/study";
+import type { Order, Thing, View } from "../study/study";
 import { MAJORITY, MEASURE, type Majority, type Measure } from "../study/words";
 
 /** The heading of a column. */
@@ -18,6 +18,8 @@ export interface Head {
   /** Both, for a heading that stands alone. */
   readonly words: string;
   readonly mark: "counted" | "made here" | "given";
+  /** The order of chairs by its numbers, and the majority, if it has one. */
+  readonly order?: readonly [Order, Majority | null];
 }
 
 /** A cell: its exact value, its decimal, the unit that it lacks since the heading has it, and its source. */
@@ -80,11 +82,14 @@ interface Things {
   /** The measure whose gains may have a unit, and the words of a majority. */
   readonly measure: Measure;
   readonly majority: string;
+  /** The majority of its numbers, or null for votes. */
+  readonly at: Majority | null;
   sum?(total: Ratio): string;
 }
 
 /** The column of what is added in a register. */
-function addedColumn(asked: Asked, { thing, group, measure, majority, added }: Things, at: number): Column {
+function addedColumn(asked: Asked, things: Things, at: number): Column {
+  const { thing, group, measure, majority, added } = things;
   const { columns: { list, isOne }, view } = asked;
   const unit = view.fractions ? "" : gainUnit(measure, ", ");
   const [label, other] = [list[at]?.label ?? "", comparedLabel(list, at, view)];
@@ -93,7 +98,7 @@ function addedColumn(asked: Asked, { thing, group, measure, majority, added }: T
   const write = (gain: Ratio) => gainText(gain, measure, view.digits);
   return {
     of: ["added", thing],
-    head: { group, own, words, mark: "made here" },
+    head: { group, own, words, mark: "made here", ...isOne && things.at ? { order: ["gain", things.at] } : {} },
     cell: (line) => cellOf(added?.(line, at), write, `made here: ${label} less ${other}`, gainUnit(measure)),
   };
 }
@@ -101,9 +106,15 @@ function addedColumn(asked: Asked, { thing, group, measure, majority, added }: T
 /** The columns of one thing. */
 function thingColumns(asked: Asked, things: Things): Column[] {
   const { thing, group, alone, mark, value, added, sum } = things;
-  const column = (own: string, at: number, side: "before" | "after", words = `${group}, ${own}`): Column => ({
-    of: [thing], head: { group, own, words, mark }, cell: (line) => value(line, at, side), ...(sum ? { sum } : {}),
-  });
+  const last = asked.columns.list.length - 1;
+  const column = (own: string, at: number, side: "before" | "after", words = `${group}, ${own}`): Column => {
+    const isOrder = thing !== "share" && at === last && (side === "after" || asked.isAlone);
+    const order: Pick<Head, "order"> = isOrder ? { order: [things.at ? "power" : "votes", things.at] } : {};
+    return {
+      of: [thing], head: { group, own, words, mark, ...order }, cell: (line) => value(line, at, side),
+      ...(sum ? { sum } : {}),
+    };
+  };
   if (asked.isAlone) return [column(alone[0], 0, "before", alone[1])];
   const rest = asked.columns.list.flatMap(({ label }, at) => {
     const own = column(isolated(label), at, "after");
@@ -126,7 +137,7 @@ function powerColumns(asked: Asked, majority: Majority): Column[] {
     return { value, decimal, unit: "", fraction, source: MEASURE[measure].from };
   };
   const power = thingColumns(asked, {
-    thing: "power", group, alone: ["power", group], mark: "counted", measure, majority: `, ${label}`,
+    thing: "power", group, alone: ["power", group], mark: "counted", measure, majority: `, ${label}`, at: majority,
     value: ({ cells }, at, side) => counted(cells[at]?.at.get(majority)?.[side]),
     added: ({ cells }, at) => cells[at]?.at.get(majority)?.gain ?? null,
     ...(measure === "share" || measure === "swings" ? { sum: write } : {}),
@@ -155,7 +166,7 @@ function votesColumns(asked: Asked): Column[] {
   const share = (it: Ratio) => `${percent(it, view.digits)} %`;
   const votes = thingColumns(asked, {
     thing: "votes", group: "Votes", alone: ["number", "Votes"], mark: "counted", measure: "swings", majority: "",
-    sum: whole,
+    at: null, sum: whole,
     value: ({ cells }, at, side) => {
       const [first] = cells[at]?.at.values() ?? [];
       const weight = first?.[side]?.weight;
@@ -165,7 +176,7 @@ function votesColumns(asked: Asked): Column[] {
   });
   const shares = thingColumns(asked, {
     thing: "share", group: isAlone ? "Votes" : "Share of votes", alone: ["share", "Share of votes"],
-    mark: "made here", measure: "share", majority: "", sum: share,
+    mark: "made here", measure: "share", majority: "", at: null, sum: share,
     value: ({ cells }, at, side) =>
       cellOf(side === "before" ? cells[at]?.votesBefore : cells[at]?.votesAfter, share, "made here: WEIGHT/CAST"),
     added: ({ cells }, at) => difference(cells[at]?.votesAfter ?? null, cells[at]?.votesBefore ?? null),

@@ -103,6 +103,14 @@ class Both {
     return chair === null ? null : this.numbers.get(chair) ?? null;
   }
 
+  /** The members that are in another chair: one that is closed and opened again is another one. */
+  get moved(): readonly Pair[] {
+    const { closed } = this;
+    return this.pairs.filter(([own, other]) => {
+      return (own.chair !== null && closed.includes(own.chair)) || own.chair !== this.seat(other);
+    });
+  }
+
   /** The base's chairs that no chair of the second table is. They are closed. */
   get closed(): readonly number[] {
     const kept = new Set(this.same.values());
@@ -119,10 +127,9 @@ const move = (code: string, chair: number | null): Step => ({ what: { kind: "mov
 /** The commands of the second table, in an order in which the register takes them: chairs are left and closed before
  * others are opened, and suspended members are restored as long as they move. */
 function stepsOf(both: Both): Step[] {
-  const { pairs, gone, added, table: { chairNames }, closed, opened, numbers } = both;
+  const { pairs, gone, added, moved: moves, table: { chairNames }, closed, opened, numbers } = both;
   const isClosed = (chair: number | null) => chair !== null && closed.includes(chair);
   const now = ({ chair }: Place) => (isClosed(chair) ? null : chair);
-  const moves = pairs.filter(([own, other]) => isClosed(own.chair) || own.chair !== both.seat(other));
   const moving = new Set(moves.map(([own]) => own));
   const restored = new Set([
     ...gone, ...pairs.flatMap(([own, other]) => (moving.has(own) || !other.suspended ? own : [])),
@@ -159,12 +166,13 @@ function stepsOf(both: Both): Step[] {
 }
 
 /** What is changed, and what no change says: names, and why a chair is the same. */
-function wordsOf({ pairs, gone, added, same, opened, closed, first, table }: Both): string[] {
+function wordsOf({ pairs, moved, gone, added, same, opened, closed, first, table }: Both): string[] {
   const many = (count: number, words: string) => (count ? [`${counted(count, "member")} ${words}`] : []);
   const named = (some: readonly { code: string; name: string }[]) =>
     listed(some.map((it) => memberWords(it.code, it.name)));
   const changed = [
     ...many(pairs.filter(([own, other]) => own.votes !== other.votes).length, "with other votes"),
+    ...(moved.length ? [`moved: ${named(moved.map(([own]) => own))}`] : []),
     ...(added.length ? [`new: ${named(added)}`] : []),
     ...(gone.length ? [`gone: ${named(gone)}`] : []),
     ...(opened.length ? [`${counted(opened.length, "chair")} opened`] : []),

@@ -38,7 +38,7 @@ function cellOf(looked: Looked, { id, chairs, none }: Question, reading: Reading
   const { majority } = reading;
   if (!found?.length) return h("td", { class: "text", "data-majority": majority }, none);
   const isOne = found.length === 1;
-  const act = { id: `answer-${id}-${majority}`, class: "quiet", title: "Tick them as a coalition" };
+  const act = { id: `answer-${id}-${majority}`, class: "quiet answer", title: "Tick them as a coalition" };
   const words = isOne ? chairWords(looked, found) : counted(found.length, "chair");
   return h("td", { class: "text", "data-majority": majority }, button(words, () => tickThem(found), act),
     isOne ? null : h("span", { class: "names" }, `: ${chairWords(looked, found)}`));

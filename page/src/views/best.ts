@@ -15,8 +15,8 @@ import { LongWork } from "./longWork";
 /** The moves to any chair that are shown. */
 const MOST_SHOWN = 50;
 
-/** What is asked for: moves to a chair, or with null to each chair, at a majority. Those to each chair empty no chair,
- * unless they may: an emptied chair changes more than any other move. */
+/** What is asked for: moves to a chair, or with null to each chair, at a majority. They empty no chair, unless they
+ * may: an emptied chair changes more than any other move. */
 interface Asked {
   readonly chair: number | null;
   readonly majority: Majority;
@@ -28,7 +28,7 @@ function movesOf(standing: Standing, asked: Asked): { codes: string[]; chairs: r
   const { chair, mayEmpty } = asked;
   const chairs = chair === null ? standing.open() : [chair];
   const isAlone = (it: Place) => it.chair !== null && standing.in(it.chair).length === 1;
-  const members = standing.members().filter((it) => !it.suspended && (chair !== null || mayEmpty || !isAlone(it)));
+  const members = standing.members().filter((it) => !it.suspended && (mayEmpty || !isAlone(it)));
   const many = members.reduce((sum, it) => sum + chairs.filter((to) => to !== it.chair).length, 0);
   return { codes: members.map((it) => it.code), chairs, many };
 }
@@ -80,7 +80,7 @@ function form(app: App, { study, counted }: Shown, close: () => void, work: Long
         asked = { ...asked, chair: it === "any" ? null : Number(it) };
       }),
       choice("best-at", "at", majorities, asked.majority, setMajority),
-      h("label", {}, empties, "any chair: also moves that empty a chair"),
+      h("label", {}, empties, "also moves that empty a chair"),
       button("Try all members", act, { id: "best-run" }),
     ),
     said,

@@ -5,7 +5,7 @@ import type { Columns, Line } from "../engine/columns";
 import type { ChairRow } from "../engine/compare";
 import { button, h, type Child } from "./dom";
 import type { View } from "../study/study";
-import { tagElements } from "./rows";
+import { isOrder, lastRow, sorter, tagElements } from "./rows";
 import { MEASURE } from "../study/words";
 
 export const KIND_WORDS: Readonly<Record<ChairRow["kind"], string>> = {
@@ -21,19 +21,29 @@ export function rowWords(line: Line, columns: Columns, view: View): Child[] {
   });
 }
 
+/** A column's heading, which orders the chairs if it can. */
+function headCell(app: App, { own, words, mark, order }: Head, kind: string | null): HTMLElement {
+  const isNumber = order?.[0] === "number";
+  const sorts = order && { order: order[0], at: order[1], words: own, name: words, kind: isNumber ? "chair-head" : "" };
+  const sort = sorts && isOrder(app.view, sorts) ? (isNumber ? "ascending" : "descending") : null;
+  const attributes = { scope: "col", title: mark, class: kind, "aria-label": words, "aria-sort": sort };
+  return h("th", attributes, sorts ? sorter(app, sorts, "head") : own);
+}
+
 /** The headings in two rows: the groups, and the columns in each. */
-function headRows(heads: readonly Head[]): HTMLElement[] {
+function headRows(app: App, heads: readonly Head[]): HTMLElement[] {
   const groups: { words: string; many: number }[] = [];
   for (const { group } of heads) {
     const last = groups[groups.length - 1];
     if (last?.words === group) last.many += 1;
     else groups.push({ words: group, many: 1 });
   }
-  const own = heads.map((it) => h("th", { scope: "col", title: it.mark, "aria-label": it.words }, it.own));
+  const own = heads.map((it) => headCell(app, it, null));
+  const chair: Head = { group: "", own: "Chair", words: "number", mark: "given", order: ["number", null] };
   return [
     h("tr", { class: "groups" }, h("td", { colspan: 2 }),
       groups.map((it) => h("th", { scope: "colgroup", colspan: it.many }, it.words))),
-    h("tr", {}, ["Chair", "Name"].map((it) => h("th", { scope: "col", class: "text" }, it)), own),
+    h("tr", {}, headCell(app, chair, "text"), h("th", { scope: "col", class: "text" }, "Name"), own),
   ];
 }
 
@@ -50,7 +60,7 @@ export function chairTable(app: App, columns: Columns): HTMLElement {
   const rows = lines.map(({ line, cells }) =>
     h("tr", { "data-chair": line.chair, "data-kind": line.kind },
       h("th", { scope: "row" }, String(line.chair)),
-      h("td", { class: "text" }, h("bdi", {}, line.name), KIND_WORDS[line.kind], tagElements(line)),
+      h("td", { class: "text" }, h("bdi", {}, line.name), KIND_WORDS[line.kind], tagElements(lastRow(line))),
       cells.map((it, at) => h("td", { title: `${it.fraction} (${it.source})`, class: firsts[at] },
         shownCell(it, view).replace(/^-(?=\d)/, "−"))),
     ),
@@ -63,7 +73,7 @@ export function chairTable(app: App, columns: Columns): HTMLElement {
     h("div", { class: "scroll", tabindex: 0, role: "region", "aria-label": name },
       h("table", { id: "chair-table" },
         h("caption", { class: "unseen" }, name),
-        h("thead", {}, headRows(heads)),
+        h("thead", {}, headRows(app, heads)),
         h("tbody", {}, rows),
         h("tfoot", {}, h("tr", {}, h("th", { scope: "row" }), h("td", { class: "text" }, "All chairs"), totals)),
       ),

@@ -15,7 +15,7 @@ import { openChairName } from "./chairName";
 import { openMember } from "./member";
 import { operationButtons } from "./operations";
 import {
-  gridOf, headOf, lineWords, listOf, numbersOf, plotOf, tagElements, tipOf, votesOf, widthsOf, type List,
+  gridOf, headOf, lastRow, lineWords, listOf, numbersOf, plotOf, tagElements, tipOf, votesOf, widthsOf, type List,
 } from "./rows";
 import { openThresholds } from "./thresholds";
 import { hideTip, showTip } from "./tip";
@@ -139,7 +139,7 @@ export function listenChairs(app: App): void {
 function headElement(app: App, card: Card, isOpen: boolean, list: List): HTMLElement {
   const { line } = card;
   const parts = [
-    h("span", { class: "who" }, h("span", { class: "card-title" }, card.title), line && tagElements(line)),
+    h("span", { class: "who" }, h("span", { class: "card-title" }, card.title), line && tagElements(lastRow(line))),
     line ? [votesOf(line, list), plotOf(line, list), numbersOf(line, list)] : h("span", { class: "rest" }, card.words),
   ];
   const attributes = { id: `card-${card.place}`, class: "card-head row" };

@@ -204,7 +204,7 @@ export function paintChanges(app: App): void {
   byId("changes-title").textContent = changes.length ? `Changes (${changes.length})` : "Changes";
   patch(byId("emptied"), emptiedWords(app));
   setDisabled(byId("clear-changes"), changes.length === 0, byId("changes-title"));
-  byId("clear-changes").hidden = changes.length === 0;
+  byId("clear-changes").hidden = changes.length < 2;
   const choices = byId("choices");
   patch(choices, base.choices.map((it) => h("li", {}, it)));
   // It can be scrolled by keyboard.

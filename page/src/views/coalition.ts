@@ -1,7 +1,8 @@
 /** The tab Coalition: chairs are ticked, and what holds of them as a coalition is shown for each majority. */
 import type { App } from "./app";
 import { verdictOf, votesOf } from "../engine/coalitions";
-import { button, byId, h, paint, type Child } from "./dom";
+import type { ChairRow } from "../engine/compare";
+import { button, byId, h, paint, svg, type Child } from "./dom";
 import { keepFocus } from "./focus";
 import { patch } from "./patch";
 import { counted, grouped } from "../study/fractions";
@@ -11,6 +12,7 @@ import { setTicked, ticked } from "../engine/ticks";
 import { MAJORITY } from "../study/words";
 import { answers, fillBar } from "./answers";
 import { chairList, lookedAt, type Looked } from "./coalitionParts";
+import { tagElements } from "./rows";
 import { failures, sizesPart } from "./sizes";
 import { smallestPart } from "./smallest";
 
@@ -30,12 +32,18 @@ function tick(app: App, next: (now: Set<number>, looked: Looked) => Iterable<num
   app.repaint();
 }
 
-function tickBox({ app, names }: Looked, chair: number, weight: number, isOn: boolean): HTMLElement {
+/** A chair of the list: a click anywhere on its row adds it to the coalition, or takes it out. */
+function tickRow({ app, chairs }: Looked, row: ChairRow, isOn: boolean): HTMLElement {
+  const { chair, name } = row;
   const onchange = () => tick(app, (now) => (now.delete(chair) ? now : now.add(chair)));
+  const votes = chairs.find((it) => it.chair === chair)?.weight ?? 0;
+  const width = `${(100 * votes) / Math.max(1, ...chairs.map((it) => it.weight))}%`;
   return h("label", { "data-chair": chair },
     h("input", { type: "checkbox", id: `tick-${chair}`, checked: isOn, live: true, onchange }),
-    h("span", { class: "card-title" }, `${chair} `, h("bdi", {}, names.get(chair) ?? "")),
-    h("span", { class: "number", title: "counted: WEIGHT" }, grouped(weight)),
+    h("span", { class: "card-title" }, `${chair} `, h("bdi", {}, name)),
+    h("span", {}, tagElements(row)),
+    svg("svg", { "aria-hidden": "true" }, svg("rect", { width, y: "30%", height: "40%", class: "part" })),
+    h("span", { class: "number", title: "counted: WEIGHT" }, grouped(votes)),
   );
 }
 
@@ -129,15 +137,19 @@ export function paintCoalition(app: App): void {
   const parts = [
     failures(looked),
     answers(looked, tickThem),
-    h("fieldset", { id: "ticks", class: "ticks" },
-      h("legend", {}, `A coalition of chairs of ${looked.board}`),
-      looked.chairs.map((it) => tickBox(looked, it.chair, it.weight, coalition.has(it.chair))),
+    h("div", { id: "coalition" },
+      h("div", { class: "fill" }, fillBar(looked, coalition)),
+      h("fieldset", { id: "ticks" },
+        h("legend", {}, `A coalition of chairs of ${looked.board}`),
+        looked.rows.map((it) => tickRow(looked, it, coalition.has(it.chair))),
+      ),
+      h("div", {},
+        buttons(looked, coalition),
+        h("p", { id: "coalition-words", role: "status" }, words(looked, coalition)),
+        h("div", { id: "verdicts" }, isAny && verdicts(looked, coalition)),
+        h("details", {}, h("summary", {}, "What these are"), DEFINITIONS.map((it) => h("p", { class: "note" }, it))),
+      ),
     ),
-    buttons(looked, coalition),
-    fillBar(looked, coalition),
-    h("p", { id: "coalition-words", role: "status" }, words(looked, coalition)),
-    h("div", { id: "verdicts" }, isAny && verdicts(looked, coalition)),
-    h("details", {}, h("summary", {}, "What these are"), DEFINITIONS.map((it) => h("p", { class: "note" }, it))),
     h("div", { id: "smallest" }, smallestPart(looked, tickThem)),
     sizesPart(looked, screenLook(app, panel)),
   ];

@@ -1,6 +1,6 @@
 /** What the parts of the tab Coalition share: the board that they look at, and its chairs in words. */
 import type { App, Shown } from "./app";
-import { chairRows } from "../engine/compare";
+import { chairRows, type ChairRow } from "../engine/compare";
 import { h, type Child } from "./dom";
 import type { Reading } from "../engine/reading";
 import type { Majority } from "../study/words";
@@ -14,6 +14,8 @@ export interface Looked {
   readonly readings: readonly Reading[];
   readonly chairs: Reading["chairs"];
   readonly names: ReadonlyMap<number, string>;
+  /** The rows of its chairs, in the order of the list. */
+  readonly rows: readonly ChairRow[];
 }
 
 /** The board, or null if no chair is open. */
@@ -22,9 +24,9 @@ export function lookedAt(app: App): Looked | null {
   const readings = [...(shown?.counted.after.values() ?? [])];
   const { chairs = [] } = readings[0] ?? {};
   if (!shown || !chairs.length) return null;
-  const rows = chairRows(shown.counted, app.view);
-  const names = rows.flatMap(({ kind, chair, name }) => (kind === "closed" ? [] : [[chair, name] as const]));
-  return { app, shown, board: boardWords(shown), readings, chairs, names: new Map(names) };
+  const rows = chairRows(shown.counted, app.view).filter((it) => it.kind !== "closed");
+  const names = new Map(rows.map(({ chair, name }) => [chair, name]));
+  return { app, shown, board: boardWords(shown), readings, chairs, names, rows };
 }
 
 /** The board that the tab looks at, in words. */

@@ -61,7 +61,6 @@ function form(app: App, shown: Shown): HTMLElement {
   const asked = now();
   const set = (part: Partial<SweepAsked>) => {
     app.open.sweep = { ...now(), ...part };
-    // No curve stands under fields that it isn't of.
     byId("sweep-results").replaceChildren();
   };
   const take = (part: Partial<SweepAsked>) => {
@@ -191,6 +190,8 @@ export function paintCurve(app: App): void {
   const place = byId("sweep-results");
   const isCounting = app.asked(shown) !== null && !sweep;
   place.classList.toggle("old", isCounting);
+  // No curve stands under fields that it isn't of.
+  if (app.open.sweep) return place.replaceChildren();
   if (isCounting) return;
   const model = curveModel(app);
   const chart = h("div", { class: "chart" });

@@ -59,7 +59,8 @@ export function fieldForm<Value>(field: Field<Value>, act: string, take: (value:
   return h("form", { class: "field", onsubmit: submit }, field.label, field.input, button, field.wrong);
 }
 
-/** A form of a list, whose id ends in `-to`, with a button, whose id ends in `-take`, which takes the choice. */
+/** A form of a list, whose id ends in `-to`, with a button, whose id ends in `-take`, which takes the choice. An option
+ * without a key is none. */
 export function choiceForm(
   id: string,
   label: string,
@@ -67,7 +68,8 @@ export function choiceForm(
   act: string,
   take: (value: string) => void,
 ): HTMLFormElement {
-  const list = h("select", { id: `${id}-to` }, options.map(([key, words]) => h("option", { value: key }, words)));
+  const made = options.map(([key, words]) => h("option", { value: key }, words));
+  const list = h("select", { id: `${id}-to`, required: true }, made);
   const submit = (event: Event) => {
     event.preventDefault();
     take(list.value);

@@ -61,25 +61,33 @@ function majorityButtons(app: App): HTMLElement {
 function paintChoices(app: App): void {
   const { view } = app;
   const measures = MEASURES.map((it): [string, string] => [it, MEASURE[it].label]);
-  const orders = ORDERS.map((it): [string, string] => [it, ORDER_WORDS[it]]);
-  const ats = view.majorities.map((it): [string, string] => [it, MAJORITY[it].label]);
   const digits = [0, 1, 2, 3, 4, 6, 8, 10].map((it): [string, string] => [String(it), String(it)]);
   const measure = choice("measure", "Measure", measures, view.measure, (it) => app.look({ measure: it as Measure }));
   measure.title = measureTitle(view.measure);
   const display = h("details", { id: "display", class: "menu" },
     h("summary", {}, "Display"),
     h("div", { class: "menu-body" },
-      // A phone has room for the majorities only; the list's head has the names elsewhere.
+      // A phone has room for the majorities only; elsewhere the list's head has names and orders.
       isNarrow() && measure,
       (isNarrow() || !isList(view.tab)) && namingChoice(app),
-      choice("order", "Order by", orders, view.order, (it) => app.look({ order: it as Order })),
-      choice("order-at", "at", ats, view.orderAt, (it) => app.look({ orderAt: it as Majority })),
+      (isNarrow() || view.columns !== "changed") && orderChoices(app),
       choice("digits", "Digits", digits, String(view.digits), (it) => app.look({ digits: Number(it) })),
       columnChoices(app),
       tableChoices(app),
     ),
   );
   patch(byId("choose"), isNarrow() ? null : measure, majorityButtons(app), display);
+}
+
+/** The order of the chairs, where columns have no heads that order. */
+function orderChoices(app: App): Child {
+  const { view } = app;
+  const orders = ORDERS.map((it): [string, string] => [it, ORDER_WORDS[it]]);
+  const ats = view.majorities.map((it): [string, string] => [it, MAJORITY[it].label]);
+  return [
+    choice("order", "Order by", orders, view.order, (it) => app.look({ order: it as Order })),
+    choice("order-at", "at", ats, view.orderAt, (it) => app.look({ orderAt: it as Majority })),
+  ];
 }
 
 const THING_WORDS: Readonly<Record<Thing, string>> = {

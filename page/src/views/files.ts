@@ -58,7 +58,7 @@ export async function checkScript(app: App, scriptHash = ""): Promise<void> {
   if (!scriptHash || shown?.study !== study || await hashOf(shown.counted.script) === scriptHash) return;
   const choices = [...study.base.choices, OTHER_SCRIPT];
   app.openStudy({ ...study, base: { ...study.base, hash: "", choices } }, app.view);
-  refuse(OTHER_SCRIPT);
+  refuse(OTHER_SCRIPT, "", "This study was changed after it was saved");
 }
 
 async function takeData(app: App, { study, view, scriptHash }: StudyData): Promise<void> {
@@ -72,7 +72,8 @@ async function takeBeside(app: App, json: string, script: string | null): Promis
   if (!data) throw new Error("there is no study in it");
   await takeData(app, data);
   if (script === null || app.shown?.counted.script === script) return;
-  refuse("The script and the file next to it are not of one study.", "The file's study is shown.");
+  const words = "The script and the file next to it are not of one study.";
+  refuse(words, "The file's study is shown.", "These files are of two studies");
 }
 
 function wordsOf(why: unknown): string {
@@ -111,6 +112,15 @@ async function orSay(task: Promise<void>): Promise<void> {
   await task.catch((why: unknown) => {
     if (!(why instanceof Cancelled)) refuse(wordsOf(why), KEPT);
   });
+}
+
+const PASTED = "Pasted table";
+
+/** The name of a table that is pasted: another one than those of the study and its scenarios. */
+export function pastedName({ study: { name, scenarios } }: App): string {
+  const taken = [name, ...scenarios.map((it) => it.name)];
+  const names = [PASTED, ...taken.map((_, at) => `${PASTED} ${at + 2}`)];
+  return names.find((it) => !taken.includes(it)) ?? PASTED;
 }
 
 /** Reads a text, and reports why if it can't. */

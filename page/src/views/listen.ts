@@ -3,7 +3,7 @@ import type { App } from "./app";
 import { keyboardDrag } from "./carry";
 import { byId } from "./dom";
 import { pointerDrag } from "./drag";
-import { readFiles, readText, refusePaste } from "./files";
+import { pastedName, readFiles, readText, refusePaste } from "./files";
 import { keys } from "./keys";
 import { notes } from "./note";
 import { fitTables } from "./paper";
@@ -47,7 +47,7 @@ function takeFiles(app: App): void {
     const files = [...(event.dataTransfer?.files ?? [])];
     if (files.length) void readFiles(app, files);
   });
-  const read = (text: string, name: string) => void readText(app, text, name);
+  const read = (text: string) => void readText(app, text, pastedName(app));
   onClick("paste", () => openPaste(read));
   document.addEventListener("paste", (event) => {
     const plain = event.clipboardData?.getData("text/plain") ?? "";
@@ -57,7 +57,7 @@ function takeFiles(app: App): void {
     event.preventDefault();
     const open = document.querySelector("dialog[open] h2");
     if (open) refusePaste(open.textContent ?? "");
-    else read(isPlain ? plain : `<html>${html}`, "Pasted table");
+    else read(isPlain ? plain : `<html>${html}`);
   });
 }
 

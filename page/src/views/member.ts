@@ -27,7 +27,7 @@ function places(app: App): [string, string][] {
 function moveForm(app: App, place: Place, close: () => void): HTMLFormElement {
   const own = String(place.chair ?? "none");
   const others = places(app).filter(([key]) => key !== own);
-  return choiceForm("move", "Move to", others, "Move", (target) => {
+  return choiceForm("move", "Move to", [["", "choose a place"], ...others], "Move", (target) => {
     close();
     void moveTo(app, place.code, target);
   });
@@ -90,8 +90,9 @@ export function openMember(app: App, code: string): void {
       votesForms(code, add),
       nameForm(app, place, close),
       h("div", { class: "buttons" },
-        button("Suspend", () => add({ kind: "suspend", code }), { id: "suspend" }),
-        button("Restore", () => add({ kind: "restore", code }), { id: "restore" }),
+        place.suspended
+          ? button("Restore", () => add({ kind: "restore", code }), { id: "restore" })
+          : button("Suspend", () => add({ kind: "suspend", code }), { id: "suspend" }),
         button("Withdraw", () => add({ kind: "withdraw", code }), { id: "withdraw" }),
         button("Find thresholds…", find, { id: "find-member" }),
       ),

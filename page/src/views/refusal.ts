@@ -2,9 +2,9 @@
 import { openDialog } from "./dialogs";
 import { button, h } from "./dom";
 
-/** Says why something can't be done, and what stands then. */
-export function refuse(why: string, then = ""): void {
-  openDialog("refusal", "This can't be done", (close) => [
+/** Says why something can't be done, and what stands then; or under another title what a person must know. */
+export function refuse(why: string, then = "", title = "This can't be done"): void {
+  openDialog("refusal", title, (close) => [
     h("p", { class: "wrong", role: "alert" }, why),
     then ? h("p", {}, then) : null,
     button("OK", close, { id: "refusal-ok" }),

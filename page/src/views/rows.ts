@@ -200,14 +200,13 @@ export function votesOf(line: Line, { view, isGain }: List): Child {
 }
 
 /** The row of a line's last column. */
-function lastRow({ cells }: Line): ChairRow | undefined {
+export function lastRow({ cells }: Line): ChairRow | undefined {
   return cells[cells.length - 1];
 }
 
 /** What stands beside a chair's name: whether it has a veto, and at which majorities. No text of a table that is
  * copied has it, since its words are the style's. */
-export function tagElements(line: Line): Child {
-  const row = lastRow(line);
+export function tagElements(row: ChairRow | undefined): Child {
   return row ? tagsOf(row.at).map(({ words, turn, majorities }) =>
     h("span", { class: `tag ${turn}`, "data-words": words }, majorities.map((it) => markOf(it)))) : null;
 }
@@ -287,12 +286,27 @@ export function tipOf(line: Line, list: List): Child {
   ];
 }
 
-/** A heading that orders the list. */
-function sorter(app: App, order: Order, at: Majority | null, words: Child, name: string, kind = ""): HTMLElement {
-  const { view } = app;
-  const isOn = view.order === order && (at === null || view.orderAt === at);
+/** What a heading orders by. */
+interface Sorts {
+  readonly order: Order;
+  readonly at: Majority | null;
+  readonly words: Child;
+  /** By what it orders, in words. */
+  readonly name: string;
+  readonly kind?: string;
+}
+
+/** Whether the chairs are in the order of a heading. */
+export function isOrder({ order, orderAt }: View, { order: own, at }: Pick<Sorts, "order" | "at">): boolean {
+  return order === own && (at === null || orderAt === at);
+}
+
+/** A heading that orders the list, or the table. */
+export function sorter(app: App, sorts: Sorts, place = "sort"): HTMLElement {
+  const { order, at, words, name, kind = "" } = sorts;
+  const isOn = isOrder(app.view, sorts);
   const act = () => app.look(at === null ? { order } : { order, orderAt: at });
-  const id = `sort-${order}${at === null ? "" : `-${at}`}`;
+  const id = `${place}-${order}${at === null ? "" : `-${at}`}`;
   return h("button", { type: "button", id, class: `sorter ${kind}`, "aria-pressed": String(isOn), onclick: act,
     live: true, title: `Order by ${name}`, "aria-label": `Order by ${name}` }, words);
 }
@@ -328,15 +342,15 @@ export function headOf(app: App, list: List): Child {
   const heads = !columns.isOne ? null : majorities.map((it) => {
     const name = `${isGain ? "gain" : "power"} at ${MAJORITY[it].label}`;
     const words = [markOf(it), SHORT[it].replace(" %", "\u00a0%")];
-    const kind = hasAdded ? "wide" : "";
-    return sorter(app, order, it, h("span", {}, words), name, kind);
+    return sorter(app, { order, at: it, words: h("span", {}, words), name, kind: hasAdded ? "wide" : "" });
   });
   const names = columns.isOne ? [""] : columns.list.map((it) => it.short);
   const power = `${MEASURE[measure].label}${unit ? `, ${unit}` : ""}`;
   return [
-    sorter(app, "number", null, "Chair", "number", "chair-head"),
+    sorter(app, { order: "number", at: null, words: "Chair", name: "number", kind: "chair-head" }),
     isNarrow() ? null : namingChoice(app),
-    sorter(app, "votes", null, isGain ? "Votes added" : "Votes", "votes", "votes-number"),
+    sorter(app, { order: "votes", at: null, words: isGain ? "Votes added" : "Votes", name: "votes",
+      kind: "votes-number" }),
     h("span", { class: "cell unit" }, isGain ? "points" : "%"),
     h("span", { class: "plot axes" },
       h("span", { class: "legend" },

@@ -98,7 +98,7 @@ function form(app: App): HTMLElement {
     app.take(kept(app.study, words));
   };
   return h("form", { class: "field", live: true, onsubmit: submit },
-    h("label", { for: "scenario-name" }, "Keep these changes as"),
+    h("label", { for: "scenario-name" }, "Name of these changes"),
     name,
     h("button", { id: "scenario-keep", disabled: app.study.changes.length === 0 }, "Keep"),
     said,
@@ -118,5 +118,6 @@ export function paintScenarios(app: App): void {
   const isEmpty = !scenarios.length && !app.study.changes.length;
   const note = h("p", { class: "note" }, "Give a list of changes a name, to compare several.");
   const place = byId("scenarios-place");
-  patch(place, h("h2", {}, "Scenarios"), isEmpty ? note : form(app), scenarios.length ? table : null);
+  const keep = h("details", { id: "keep" }, h("summary", {}, "Keep these changes…"), form(app));
+  patch(place, h("h2", {}, "Scenarios"), isEmpty ? note : keep, scenarios.length ? table : null);
 }

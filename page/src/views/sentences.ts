@@ -84,6 +84,9 @@ export function sentenceList(app: App, id: string, say: (words: string) => void,
 
 /** Paints the sentences above the list: they stay as they are while they say the same. */
 export function paintSentences(app: App): void {
-  const { shown } = app;
-  if (shown) patch(byId("sentences"), sentenceList(app, "copy", (words) => (byId("live").textContent = words), false));
+  const { shown, view } = app;
+  if (!shown) return;
+  const place = byId("sentences");
+  place.classList.toggle("many", view.majorities.length > 2);
+  patch(place, sentenceList(app, "copy", (words) => (byId("live").textContent = words), false));
 }

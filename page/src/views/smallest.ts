@@ -1,6 +1,7 @@
-/** The smallest winning coalitions with a chair, and the chairs that have a veto. */
+/** The smallest coalitions that win or block, with a chair or without one, and the chairs that have a veto. */
 import {
-  blockingRule, ruleWithout, smallestWith, subsetsWithout, vetoChairs, votesOf, type Smallest,
+  blockingRule, minimalBlocking, minimalWinning, minimalWith, ruleWithout, smallestWith, subsetsAbove, subsetsWithout,
+  vetoChairs, votesOf, type Smallest,
 } from "../engine/coalitions";
 import { button, choice, h, type Child } from "./dom";
 import { counted, grouped } from "../study/fractions";
@@ -18,31 +19,43 @@ type TickThem = (chairs: readonly number[]) => void;
 interface Wanted {
   readonly chair: number | null;
   readonly without: number | null;
+  readonly isBlocking: boolean;
+  /** Whether each chair must be needed: with any chairs, the smallest need all of theirs. */
+  readonly isMinimal: boolean;
 }
 
 /** A reading, and its smallest winning or blocking coalitions with the chosen chair. */
 interface Found {
   readonly reading: Reading;
-  readonly isBlocking: boolean;
+  readonly wanted: Wanted;
   readonly smallest: Smallest | null;
 }
 
-function tableOf(looked: Looked, { chair, without }: Wanted, found: readonly Found[]): HTMLElement {
-  const { isBlocking } = looked.app.open.ticks;
-  const heads = ["Least number of chairs", ...isBlocking ? [] : ["Winning coalitions with this number"]];
-  const rows = found.map(({ reading: { majority }, smallest }) =>
-    h("tr", { "data-majority": majority },
-      h("th", { scope: "row", class: "text" }, MAJORITY[majority].label),
-      h("td", {}, smallest ? String(smallest.size) : "none wins"),
-      isBlocking ? null : h("td", {}, smallest ? grouped(smallest.many) : "0"),
+/** Whether the number of all coalitions is known, and not only the first of them. */
+function hasNumber({ isBlocking, isMinimal }: Wanted): boolean {
+  return !isBlocking || isMinimal;
+}
+
+/** What is said where there is no such coalition. */
+function noneWords({ wanted: { isMinimal }, reading: { winning } }: Found): string {
+  return isMinimal && winning ? "none needs it" : "none wins";
+}
+
+function tableOf(looked: Looked, wanted: Wanted, found: readonly Found[]): HTMLElement {
+  const { chair, without } = wanted;
+  const heads = ["Least number of chairs", ...hasNumber(wanted) ? ["Coalitions with this number"] : []];
+  const rows = found.map((it) =>
+    h("tr", { "data-majority": it.reading.majority },
+      h("th", { scope: "row", class: "text" }, MAJORITY[it.reading.majority].label),
+      h("td", {}, it.smallest ? String(it.smallest.size) : noneWords(it)),
+      hasNumber(wanted) ? h("td", {}, it.smallest ? grouped(it.smallest.many) : "0") : null,
     ),
   );
   return h("div", { class: "scroll" },
     h("table", { id: "smallest-table" },
       h("caption", {}, chair === null ? "Of any chairs" : ["With ", chairList(looked, [chair])],
-        without === null ? null : [", without ", chairList(looked, [without])]),
-      h("thead", {},
-        h("tr", {}, h("td", {}), heads.map((it) => h("th", { scope: "col", "data-mark": "made here" }, it)))),
+        without === null ? null : [", without ", chairList(looked, [without])], " (made here)"),
+      h("thead", {}, h("tr", {}, h("td", {}), heads.map((it) => h("th", { scope: "col" }, it)))),
       h("tbody", {}, rows),
     ),
   );
@@ -60,22 +73,24 @@ function rowOf(looked: Looked, coalition: readonly number[], at: number, tickThe
 }
 
 /** Which of the coalitions are listed. */
-function listWords({ reading: { majority }, isBlocking, smallest }: Found): string {
+function listWords({ reading: { majority, winning }, wanted, smallest }: Found): string {
   const { at } = MAJORITY[majority];
+  if (!smallest && wanted.isMinimal && winning) {
+    return `${at} no coalition that ${wanted.isBlocking ? "can block" : "wins"} needs this chair.`;
+  }
   if (!smallest) return `${at} no coalition wins.`;
   const { many, size } = smallest;
   const chairs = counted(size, "chair");
-  if (many === 1) return `${at}: the only one with ${chairs}.`;
-  const some = `the first ${MOST_LISTED}${isBlocking ? "" : ` of ${grouped(many)}`}`;
+  if (many === 1) return `${at}: the only one with ${chairs} (made here).`;
+  const some = `the first ${MOST_LISTED}${hasNumber(wanted) ? ` of ${grouped(many)}` : ""}`;
   const which = many > MOST_LISTED ? some : `all ${many}`;
-  return `${at}: ${which} with ${chairs}, in order of their chairs' numbers.`;
+  return `${at}: ${which} with ${chairs}, in order of their chairs' numbers (made here).`;
 }
 
 function listOf(looked: Looked, found: Found, tickThem: TickThem): Child {
   const words = listWords(found);
   const first = found.smallest?.first ?? [];
-  const marked = { scope: "col", "data-mark": "made here" };
-  const heads = [h("th", { class: "text", ...marked }, "Chairs"), h("th", marked, "Votes")];
+  const heads = [h("th", { scope: "col", class: "text" }, "Chairs"), h("th", { scope: "col" }, "Votes")];
   return [
     h("p", { id: "smallest-words" }, words),
     first.length > 0 && h("div", { class: "scroll preview", tabindex: 0, role: "region", "aria-label": words },
@@ -117,7 +132,7 @@ function blocking({ readings }: Looked): Child {
 }
 
 /** The choice of a chair, of a majority, and of coalitions that win or that can block. */
-function choices(looked: Looked, { chair, without }: Wanted): HTMLElement {
+function choices(looked: Looked, { chair, without, isBlocking, isMinimal }: Wanted): HTMLElement {
   const { app, chairs, names, readings } = looked;
   const { at } = app.open.ticks;
   const options = chairs.map((it) => [String(it.chair), `${it.chair} ${isolated(names.get(it.chair) ?? "")}`] as const);
@@ -127,7 +142,10 @@ function choices(looked: Looked, { chair, without }: Wanted): HTMLElement {
     app.repaint();
   };
   const kinds = [["winning", "that win"], ["blocking", "that can block"]] as const;
-  const { isBlocking } = app.open.ticks;
+  const box: HTMLInputElement = h("input", {
+    type: "checkbox", id: "smallest-minimal", checked: isMinimal, live: true,
+    onchange: () => again({ isMinimal: box.checked }),
+  });
   return h("div", { class: "choices" },
     choice("smallest-kind", "Coalitions", kinds, isBlocking ? "blocking" : "winning", (it) => {
       again({ isBlocking: it === "blocking" });
@@ -140,6 +158,8 @@ function choices(looked: Looked, { chair, without }: Wanted): HTMLElement {
     choice("smallest-at", "list at", ats, readingAt(looked, at)?.majority ?? "", (text) => {
       again({ at: MAJORITIES.find((it) => it === text) ?? null });
     }),
+    chair === null ? null : h("label", { title: "Without any of its chairs it would no longer win, or block" },
+      box, "only those that need each of their chairs"),
   );
 }
 
@@ -148,22 +168,36 @@ function wantedOf({ app: { open: { ticks } }, chairs }: Looked): Wanted {
   const isOpen = (it: number | "any" | null) => chairs.some(({ chair }) => chair === it);
   const first = isOpen(ticks.chair) ? ticks.chair as number : chairs[0]?.chair ?? null;
   const chair = ticks.chair === "any" ? null : first;
-  return { chair, without: isOpen(ticks.without) && ticks.without !== chair ? ticks.without : null };
+  const without = isOpen(ticks.without) && ticks.without !== chair ? ticks.without : null;
+  const { isBlocking, isMinimal } = ticks;
+  return { chair, without, isBlocking, isMinimal: chair !== null && isMinimal };
+}
+
+/** The smallest coalitions that are wanted, at each majority. */
+function foundOf({ chairs, readings }: Looked, wanted: Wanted): Found[] {
+  const { chair, without, isBlocking, isMinimal } = wanted;
+  const voters = chairs.filter((it) => it.chair !== without);
+  if (isMinimal && chair !== null) {
+    const above = subsetsAbove(voters, chair);
+    const minimal = isBlocking ? minimalBlocking : minimalWinning;
+    return readings.map((reading) => {
+      const smallest = reading.winning ? minimalWith(minimal(reading, without), chair, above, MOST_LISTED) : null;
+      return { reading, wanted, smallest };
+    });
+  }
+  const others = subsetsWithout(voters, chair);
+  return readings.map((reading) => {
+    const rule = isBlocking ? blockingRule(reading, chair, without) : ruleWithout(reading, without);
+    const isAny = chair !== null || reading.winning > 0;
+    return { reading, wanted, smallest: isAny ? smallestWith(rule, chair, others, MOST_LISTED) : null };
+  });
 }
 
 /** The part of the tab with the smallest winning coalitions and the chairs with a veto. */
 export function smallestPart(looked: Looked, tickThem: TickThem): Child {
-  const { app: { open: { ticks } }, chairs, readings } = looked;
   const wanted = wantedOf(looked);
-  const { chair, without } = wanted;
-  const others = subsetsWithout(chairs.filter((it) => it.chair !== without), chair);
-  const { isBlocking } = ticks;
-  const found = readings.map((reading): Found => {
-    const rule = isBlocking ? blockingRule(reading, chair, without) : ruleWithout(reading, without);
-    const isAny = chair !== null || reading.winning > 0;
-    return { reading, isBlocking, smallest: isAny ? smallestWith(rule, chair, others, MOST_LISTED) : null };
-  });
-  const listed = found.find((it) => it.reading === readingAt(looked, ticks.at));
+  const found = foundOf(looked, wanted);
+  const listed = found.find((it) => it.reading === readingAt(looked, looked.app.open.ticks.at));
   return [
     h("h3", {}, "Smallest coalitions"),
     h("p", { class: "note" }, "Of all coalitions that win or can block, those with the fewest chairs."),

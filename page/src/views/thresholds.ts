@@ -4,7 +4,11 @@ import { copy } from "../exports/clipboard";
 import type { Thresholds, ThresholdsAsked } from "../engine/count";
 import { openDialog } from "./dialogs";
 import { button, choice, h, paint, type Child } from "./dom";
+import { percentage, wholeNumber, type Typed } from "../study/amounts";
+import { MEASURE_NAMES } from "../cited";
+import { readField } from "./field";
 import { fractionText, grouped, percent } from "../study/fractions";
+import type { Power } from "../engine/orders";
 import { firstLines, provenanceOf } from "../study/provenance";
 import type { SweepAsked, Who } from "../study/study";
 import { aboutWords, thresholdRows, thresholdsText, whoWords, type ThresholdRow } from "../engine/thresholdModel";
@@ -79,18 +83,49 @@ function answer(app: App, shown: Shown, all: Thresholds, said: HTMLElement): Chi
 }
 
 /** What is asked for, as the boards and their chairs allow it. */
-function possible(shown: Shown, { who, on, other }: ThresholdsAsked): ThresholdsAsked {
+function possible(shown: Shown, { who, on, other, power }: ThresholdsAsked): ThresholdsAsked {
   const standing = standingOn(shown, on);
   const there = whoThere(standing, who);
   const own = there.kind === "chair" ? there.chair : standing.place(there.code)?.chair;
-  return { who: there, on, other: other !== null && other !== own && standing.open().includes(other) ? other : null };
+  const isOther = other !== null && other !== own && standing.open().includes(other);
+  return { who: there, on, other: isOther ? other : null, power };
 }
+
+/** Reads a power of the measure that the page shows: shares in per cent, swings whole, and other measures up to 1. */
+function readPower(measure: Power["measure"], text: string): Typed<Power | null> {
+  if (!text.trim()) return { value: null };
+  const found = measure === "swings" ? wholeNumber(text, 2 ** 31) : percentage(text, "share");
+  if ("wrong" in found) return found;
+  const least = String(found.value);
+  const most = measure === "share" ? 100 : measure === "swings" ? 2 ** 31 : 1;
+  const words = `There is no ${MEASURE_NAMES[measure]} above ${most}${measure === "share" ? " %" : ""}.`;
+  return Number(least) > most ? { wrong: words } : { value: Number(least) ? { measure, least } : null };
+}
+
+/** The field of a power, which is read when it is left, or at Enter. No answer stands under one that isn't read. */
+function powerField(measure: Power["measure"], power: Power | null, set: Sets): Child {
+  const take = () => {
+    const found = readPower(measure, field.input.value);
+    field.check();
+    set("value" in found ? { power: found.value } : null);
+  };
+  const read = (text: string) => readPower(measure, text);
+  const words = measure === "swings" ? "at least" : `a ${MEASURE_NAMES[measure]} of at least`;
+  const attributes = { class: "short", inputmode: "decimal", value: power?.least ?? "", onchange: take };
+  const field = readField("find-power", words, read, attributes);
+  const unit = measure === "share" ? "per cent" : measure === "swings" ? "swings" : "";
+  return [h("span", { class: "choice" }, field.label, field.input, unit), field.wrong];
+}
+
+/** Takes a part of what is asked for, or with null what can't be asked. */
+type Sets = (part: Partial<ThresholdsAsked> | null) => void;
 
 /** The fields of what is asked for. */
 function fields(
+  { view }: App,
   shown: Shown,
-  { who, on, other }: ThresholdsAsked,
-  set: (part: Partial<ThresholdsAsked>) => void,
+  { who, on, other, power }: ThresholdsAsked,
+  set: Sets,
 ): Child {
   const standing = standingOn(shown, on);
   const own = who.kind === "chair" ? who.chair : standing.place(who.code)?.chair;
@@ -102,6 +137,7 @@ function fields(
     choice("find-other", "more swings than", [["", "no other chair"], ...others], String(other ?? ""), (it) =>
       set({ other: it ? Number(it) : null }),
     ),
+    powerField(view.measure === "ratio" ? "share" : view.measure, power, set),
   ];
 }
 
@@ -121,9 +157,10 @@ function content(app: App, shown: Shown, first: ThresholdsAsked, work: LongWork)
       app.counter.thresholds(shown.counted, shown.study.changes, asked, report);
     void work.run("Thresholds are being found.", begin, show, said);
   };
-  const set = (part: Partial<ThresholdsAsked>) => {
+  const set: Sets = (part) => {
+    if (!part) return paint(place);
     asked = possible(shown, { ...asked, ...part });
-    paint(form, fields(shown, asked, set), again);
+    paint(form, fields(app, shown, asked, set), again);
     find();
   };
   const again = button("Find again", find, { id: "find-run" });
@@ -132,8 +169,8 @@ function content(app: App, shown: Shown, first: ThresholdsAsked, work: LongWork)
 }
 
 const WORDS =
-  "Each threshold is found by bisection over all numbers of votes that a member may have. The register counts on " +
-  "both sides of it.";
+  "Each threshold is exact among all numbers of votes that a member may have: the register counts on both sides of " +
+  "it. A share of power may fall while votes grow; then it is first had from some votes on, and always from others.";
 
 /** Opens the dialog, which finds the thresholds of a member or a chair; without a board, on the one that is shown. */
 export function openThresholds(app: App, who: Who, on?: SweepAsked["on"]): void {
@@ -144,7 +181,7 @@ export function openThresholds(app: App, who: Who, on?: SweepAsked["on"]): void 
   const dialog = openDialog(
     "find",
     "Find thresholds",
-    () => [h("p", { class: "note" }, WORDS), content(app, shown, { who, on: board, other: null }, work)],
+    () => [h("p", { class: "note" }, WORDS), content(app, shown, { who, on: board, other: null, power: null }, work)],
     () => work.end(),
   );
   dialog.classList.add("wide");

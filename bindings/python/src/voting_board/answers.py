@@ -3,7 +3,7 @@ from __future__ import annotations
 
 from collections.abc import Mapping, Sequence
 from fractions import Fraction
-from itertools import groupby
+from itertools import accumulate, groupby
 from typing import TYPE_CHECKING, Optional
 
 from .names import BEGINNINGS, FINDINGS, MEASURES, Majority
@@ -99,15 +99,22 @@ def opened_words(result: Result, base: Result, majority: Majority, index: IndexN
     return said
 
 
-def most_sentence(result: Result, majority: Majority, index: IndexName) -> str:
-    """The chair or the chairs with the greatest value, and its votes if it is one."""
-    found = result.indices[majority]
-    values = {it.chair: getattr(it, index) or Fraction(0) for it in found.chairs}
-    most = max(values.values(), default=Fraction(0))
-    chairs = [chair for chair, value in values.items() if value == most]
-    share = value_words(Fraction(sum(it.weight for it in found.chairs if it.chair in chairs), found.cast), "share")
-    words = {"at": BEGINNINGS[majority], "measure": NAMES[index], "value": value_words(most, index)}
-    return finding("most", result, chairs, votes=FINDINGS["votes"].format(share=share), **words)
+def fewest(weights: Sequence[int], votes: int, least: int) -> int:
+    """How many of the greatest weights have some votes, and are at least some number; 0 if all have fewer."""
+    sums = accumulate(sorted(weights, reverse=True))
+    return next((many for many, it in enumerate(sums, 1) if it >= votes and many >= least), 0)
+
+
+def no_veto_sentence(found: Indices) -> str:
+    """The fewest chairs that carry together, and that block, where no chair has a veto."""
+    weights = [it.weight for it in found.chairs]
+    ways = [fewest(weights, found.cast - found.quota + 1, 0)]
+    if found.least_size:
+        ways.append(len(weights) - found.least_size + 1)
+    words = {"carry": fewest(weights, found.quota, found.least_size), "block": min(it for it in ways if it)}
+    return FINDINGS["no_veto_quorum" if found.majority == "quorum" else "no_veto"].format(
+        at=BEGINNINGS[found.majority], **words
+    )
 
 
 def kind_of(found: Indices, swings: int) -> str:
@@ -194,13 +201,13 @@ def rest_words(result: Result, majority: Majority) -> str:
 
 
 def gain_sentence(result: Result, majority: Majority, index: IndexName) -> str:
-    """Vetoes, and the greatest gain and loss at a majority; of a base the greatest value, or vetoes."""
+    """Vetoes, and the greatest gain and loss at a majority; of a base without vetoes how few chairs carry and block."""
     at, found = BEGINNINGS[majority], result.indices[majority]
     if not found.omega:
         return FINDINGS["none_wins"].format(at=at, cast=f"{found.cast:,}", total=f"{found.total:,}")
     lead = veto_words(result, majority)
     if result.base is None:
-        return (lead or most_sentence(result, majority, index)) + rest_words(result, majority)
+        return (lead or no_veto_sentence(found)) + rest_words(result, majority)
     if not result.base.indices[majority].omega:
         return FINDINGS["none_before"].format(at=at)
     over, under = result.gains_over(index, majority)

@@ -125,10 +125,14 @@ class Both:
         """The chair of a member of the second table."""
         return None if member.chair is None else self.numbers[member.chair]
 
+    def moved(self) -> list[tuple[StrictMember, StrictMember]]:
+        """The members that are in another chair: one that is closed and opened again is another one."""
+        return [(own, it) for own, it in self.pairs if own.chair in self.closed or own.chair != self.seat(it)]
+
     def steps(self) -> Iterator[Step]:
         """The commands, in an order in which the register takes them: chairs are left and closed before others are
         opened, and suspended members are restored as long as they move."""
-        moves = [(own, it) for own, it in self.pairs if own.chair in self.closed or own.chair != self.seat(it)]
+        moves = self.moved()
         moving = {own.code for own, _ in moves}
         stays = {own.code for own, it in self.pairs if it.suspended} - moving
         restored = {it.code for it in self.members if it.suspended and it.code not in stays}
@@ -165,7 +169,8 @@ class Both:
         """What is changed, and what no change says: names, and why a chair is the same."""
         other = len([own for own, it in self.pairs if own.votes != it.votes])
         changed = [f"{counted(other, 'member')} with other votes"] if other else []
-        for words, some in (("new", self.added), ("gone", self.gone)):
+        moved = [own for own, _ in self.moved()]
+        for words, some in (("moved", moved), ("new", self.added), ("gone", self.gone)):
             if some:
                 changed.append(f"{words}: {listed([f'{it.code} {it.name}'.strip() for it in some])}")
         for words, chairs in (("opened", self.opened), ("closed", self.closed)):
