@@ -10,7 +10,7 @@ import { isolated, memberWords } from "../study/names";
 import { studyOf, withScenario } from "../study/study";
 import { baseOf } from "../tables/base";
 import { columnName, guessedLayout, layoutWith } from "../tables/columns";
-import { saysMore } from "../tables/html";
+import { hasTable } from "../tables/html";
 import { MOST_SHOWN, MOST_SHOWN_LETTERS } from "../tables/limits";
 import type { Thousands } from "../tables/numbers";
 import { faultWords, readTable } from "../tables/read";
@@ -390,8 +390,8 @@ export function openTable(app: App, source: Source): void {
   dialog.classList.add("wide");
 }
 
-/** Asks for a table that is pasted as text. One that says more as HTML is read at once. */
-export function openPaste(read: (text: string, name: string) => void): void {
+/** Asks for a table that is pasted as text. One of a web page or a spreadsheet is read at once. */
+export function openPaste(read: (text: string, html: string) => void): void {
   let pasted = (_: ClipboardEvent): void => {};
   const dialog = openDialog("paste-dialog", "Paste a table", (close) => {
     const area = h(
@@ -401,18 +401,18 @@ export function openPaste(read: (text: string, name: string) => void): void {
         autofocus: true,
       },
     );
-    const act = (text = area.value) => {
+    const act = (text = area.value, html = "") => {
       close();
-      read(text, "Pasted table");
+      read(text, html);
     };
     pasted = (event) => {
-      const [html, plain] = ["text/html", "text/plain"].map((it) => event.clipboardData?.getData(it) ?? "");
-      const isMore = !area.value && saysMore(html ?? "");
-      if (event.target === area && !isMore) return;
+      const [html = "", plain = ""] = ["text/html", "text/plain"].map((it) => event.clipboardData?.getData(it) ?? "");
+      const isTable = !area.value && hasTable(html);
+      if (event.target === area && !isTable) return;
       event.preventDefault();
       event.stopPropagation();
-      if (isMore) return act(`<html>${html}`);
-      area.value += plain ?? "";
+      if (isTable) return act(plain, html);
+      area.value += plain;
       area.focus();
     };
     return [
