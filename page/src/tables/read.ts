@@ -8,6 +8,7 @@ import { freeCodes, madeCodes, memberKey } from "./codes";
 import { membersOf, type Members } from "./members";
 import { wholeOf } from "./numbers";
 import { errorWords, valueErrorWords } from "./cells";
+import { askWhole, comparedOf } from "./compared";
 import { withChairs, withDirectors, withOwnRows } from "./directors";
 import { withoutPieces } from "./pieces";
 import { Questions } from "./questions";
@@ -248,6 +249,7 @@ function arranged(sheet: Sheet, layout: Layout, answers: Answers, questions: Que
   if (!questions.hasOpen("alternate", "headings", "single")) askSums(found.lines, found.seats, questions);
   const suspended = askSuspensions(sheet, layout, found.lines, answers.leftOut, questions);
   const outside = questions.hasOpen("total", "headings") ? [] : outsideOf(sheet, layout, found.lines, questions);
+  if (!questions.hasOpen("alternate", "headings", "single", "total", "aggregate")) askWhole(sheet, found, questions);
   const said = [...roleNotices(found.lines), ...notices, ...result.notices, ...markNotice(found.lines)];
   return { lines: withSuspensions(found.lines, suspended), seats: found.seats, said, outside };
 }
@@ -276,7 +278,7 @@ export function readTable(sheet: Sheet, given: Layout, answers: Answers): ReadTa
   const missing = questions.areAnswered ? missingColumn(sheet, layout) : null;
   if (missing || !questions.areAnswered) {
     const faults = missing ? [missing] : [];
-    return { base: null, faults, questions: questions.all, notices: sheet.notices, roles: new Map() };
+    return { base: null, faults, questions: questions.all, notices: sheet.notices, roles: new Map(), compared: [] };
   }
   const strict = isStrict(sheet);
   const rows = strict ? strictly(sheet, layout, answers) : arranged(sheet, layout, answers, questions);
@@ -301,7 +303,9 @@ export function readTable(sheet: Sheet, given: Layout, answers: Answers): ReadTa
     columns: columnNames(sheet, layout),
   };
   const isWhole = !faults.length && questions.areAnswered;
-  return { base: isWhole ? base : null, faults, questions: questions.all, notices, roles: rolesOf(rows.lines, out) };
+  const roles = rolesOf(rows.lines, out);
+  const compared = isWhole ? comparedOf(sheet, layout, rows, base) : [];
+  return { base: isWhole ? base : null, faults, questions: questions.all, notices, roles, compared };
 }
 
 /** The place and the value of a fault in words. */

@@ -274,6 +274,21 @@ function previewTable(preview: Preview, read: ReadTable): HTMLElement {
   );
 }
 
+/** What was read in numbers, beside what the table prints of them. */
+function comparedTable({ compared }: ReadTable): Child {
+  if (!compared.length) return null;
+  const hasPrinted = compared.some(({ printed }) => printed !== "");
+  const rows = compared.map(({ what, read, printed, isOff }) => {
+    const look = isOff ? "text wrong" : "text";
+    return h("tr", {}, h("th", { scope: "row", class: "text" }, what), h("td", { class: look }, read),
+      hasPrinted && h("td", { class: look }, printed));
+  });
+  const heads = ["Compare with the table", "Read", ...(hasPrinted ? ["Printed in the table"] : [])];
+  return h("div", { class: "scroll" }, h("table", { id: "table-compared" },
+    h("thead", {}, h("tr", {}, heads.map((it) => h("th", { scope: "col", class: "text" }, it)))),
+    h("tbody", {}, rows)));
+}
+
 /** The summary of the table, in the scripts' sentence. */
 function wholeWords({ base }: ReadTable): string {
   if (!base) return "Not whole yet.";
@@ -366,6 +381,7 @@ function content(preview: Preview, close: () => void, again: () => void): Child 
     which,
     questions(preview, read, again),
     faultList(preview, read, again),
+    comparedTable(read),
     previewTable(preview, read),
     columnChoices(preview, again),
     many ? noticed : null,
