@@ -140,14 +140,21 @@ export function isPercent(cell: string): boolean {
   return PERCENT.test(withoutMarks(cell));
 }
 
-/** The mark between thousands that some cell proves, by two marks of a kind or by a decimal behind one; else null. */
+/** The mark between thousands that some cell proves, by two marks of a kind, by a decimal behind one, or as the mark of
+ * decimals elsewhere in the table; else null. */
 export function provenThousands(cells: readonly string[]): Thousands | null {
   const proves = (mark: string, other: string) => {
     const proof = new RegExp(`^[0-9]{1,3}(\\${mark}[0-9]{3})+(\\${mark}[0-9]{3}|\\${other}00?)$`);
     return cells.some((cell) => proof.test(cell));
   };
+  const isDecimal = (mark: string) => {
+    const decimal = new RegExp(`^[0-9]{1,3}\\${mark}([0-9]{1,2}|[0-9]{4,15})\\s*%?$`);
+    return cells.some((cell) => decimal.test(cell) && !/[.,]00?$/.test(cell));
+  };
   const [comma, point] = [proves(",", "."), proves(".", ",")];
-  return comma === point ? null : comma ? "," : ".";
+  if (comma !== point) return comma ? "," : ".";
+  const [commas, points] = [isDecimal(","), isDecimal(".")];
+  return comma || commas === points ? null : commas ? "." : ",";
 }
 
 /** Why a cell isn't a number of votes, in words. */

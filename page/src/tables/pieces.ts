@@ -1,4 +1,5 @@
 /** A chair in pieces where all others are in one: its name may be a word for a missing value that no list has. */
+import { errorWords } from "./cells";
 import { isNone, keyOf } from "./chairs";
 import type { Questions } from "./questions";
 import { rowsWords, type Line } from "./rows";
@@ -13,7 +14,7 @@ function piecesOf(lines: readonly Line[]): Map<string, Line[][]> {
   let last = "";
   for (const line of lines) {
     const { chair } = line.cells;
-    if (line.role !== "member" || chair === "" || isNone(chair)) continue;
+    if (line.role !== "member" || chair === "" || isNone(chair) || errorWords(chair)) continue;
     const key = keyOf(chair);
     const pieces = found.get(key) ?? [];
     if (key === last) pieces[pieces.length - 1]?.push(line);
