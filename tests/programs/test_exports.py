@@ -19,6 +19,7 @@ sys.path.insert(0, str(TOP / "page" / "tests"))
 #: A change of votes, so that tables and figures have before and after.
 CHANGES = (["votes", "XAD", "+40%"], ["move", "XAA", "2"])
 RENDERERS = ("inkscape", "office", "rsvg", "cairosvg")
+TABS = ("power", "change", "curve", "coalition")
 #: Parts of a picture whose colours are compared, and how far the mean of one may be off, of 255.
 PARTS, MOST_OFF = 24, 26
 DOCUMENT = """\\documentclass{article}
@@ -45,12 +46,23 @@ write.csv(data.frame(one$name, one$votes, one$power_share), "read.csv", row.name
 def exported(tmp_path_factory: pytest.TempPathFactory) -> Iterator[dict[str, bytes]]:
     """The files that the page exports for the example with two changes, by the ends of their names."""
     from chromium import Page  # type: ignore[import-not-found]
+    from selenium.webdriver.common.keys import Keys
 
     page = Page(TOP / "page" / "out" / "board.html", tmp_path_factory.mktemp("downloads"))
     page.open()
     assert all(page.act(*it) for it in CHANGES)
+    found: dict[str, bytes] = {}
+    for tab in TABS:
+        page.click(f"#tab-{tab}")
+        if tab == "curve":
+            page.at("#sweep-run").click()
+            page.until(lambda: page.all("#sweep-table"), "the curve")
+        page.settle()
+        page.click("#export")
+        found[f"{tab}.svg"] = page.downloaded("#export-svg")[1]
+        page.press(Keys.ESCAPE)
     page.click("#export")
-    found = {end: page.downloaded(f"#export-{end}")[1] for end in ("svg", "tex", "xlsx", "csv")}
+    found |= {end: page.downloaded(f"#export-{end}")[1] for end in ("tex", "xlsx", "csv")}
     page.click("#export-cite")
     page.until(lambda: page.all("#cite-bibtex"), "the citation")
     found["bib"] = page.text("#cite-bibtex").encode()
@@ -83,12 +95,13 @@ def drawn(renderer: str, folder: Path) -> bytes:
     return out.read_bytes()
 
 
+@pytest.mark.parametrize("tab", TABS)
 @pytest.mark.parametrize("renderer", RENDERERS)
-def test_figure(renderer: str, exported: dict[str, bytes], tmp_path: Path) -> None:
+def test_figure(renderer: str, tab: str, exported: dict[str, bytes], tmp_path: Path) -> None:
     # Catches: a figure that a program doesn't load, or draws with dark bands, other colours or another size.
-    (tmp_path / "it.svg").write_bytes(exported["svg"])
+    (tmp_path / "it.svg").write_bytes(exported[f"{tab}.svg"])
     (tmp_path / "other").mkdir()
-    (tmp_path / "other" / "it.svg").write_bytes(exported["svg"])
+    (tmp_path / "other" / "it.svg").write_bytes(exported[f"{tab}.svg"])
     wide, high, found = pixels(drawn(renderer, tmp_path))
     other_wide, other_high, wanted = pixels(drawn("rsvg", tmp_path / "other"))
     assert abs(wide / high - other_wide / other_high) < 0.02

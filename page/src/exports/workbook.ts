@@ -75,16 +75,35 @@ function letters(column: number): string {
   return column < 26 ? last : letters(Math.floor(column / 26) - 1) + last;
 }
 
-function cellOf(value: Value, place: string, isHead: boolean, formats: readonly string[]): string {
+/** What the cells of all sheets refer to: formats of numbers, and each text with its place. */
+interface Shared {
+  readonly formats: readonly string[];
+  readonly texts: ReadonlyMap<string, number>;
+}
+
+function sharedOf(sheets: readonly Sheet[]): Shared {
+  const values = sheets.flatMap(({ rows }) => rows.flat());
+  const texts = [...new Set(values.flatMap((it) => (typeof it === "string" && it !== "" ? it : [])))];
+  const formats = [...new Set(values.flatMap((it) => (it !== null && typeof it === "object" ? it.format : [])))];
+  return { formats, texts: new Map(texts.map((it, at) => [it, at])) };
+}
+
+/** The part with all texts: R's openxlsx and Perl's Spreadsheet::XLSX read those of cells as they are written. */
+function textsOf({ texts }: Shared): string {
+  // Both take the attribute for a part of the text, so only a text that needs it has it.
+  const space = (text: string) => (/^\s|\s$|[\t\n]/.test(text) ? ' xml:space="preserve"' : "");
+  const items = [...texts.keys()].map((it) => `<si><t${space(it)}>${escaped(it)}</t></si>`);
+  return `${XML}<sst xmlns="${MAIN}" uniqueCount="${items.length}">${items.join("")}</sst>`;
+}
+
+function cellOf(value: Value, place: string, isHead: boolean, { formats, texts }: Shared): string {
   if (value === null || value === "") return "";
   if (typeof value === "number") return `<c r="${place}"><v>${value}</v></c>`;
   if (typeof value === "object") {
     return `<c r="${place}" s="${NUMBER_STYLE + formats.indexOf(value.format)}"><v>${value.number}</v></c>`;
   }
   const style = isHead ? HEAD_STYLE : TEXT_STYLE;
-  // R's openxlsx takes the attribute for a part of the text, so only a text that needs it has it.
-  const space = /^\s|\s$|[\t\n]/.test(value) ? ' xml:space="preserve"' : "";
-  return `<c r="${place}" s="${style}" t="inlineStr"><is><t${space}>${escaped(value)}</t></is></c>`;
+  return `<c r="${place}" s="${style}" t="s"><v>${texts.get(value) ?? 0}</v></c>`;
 }
 
 /** The characters of the longest word of a head, which isn't broken. */
@@ -92,14 +111,14 @@ function longest(head: Value | undefined): number {
   return typeof head === "string" ? Math.max(...head.split(/\s+/).map(({ length }) => length)) : 0;
 }
 
-function sheetOf({ rows, widths }: Sheet, formats: readonly string[]): string {
+function sheetOf({ rows, widths }: Sheet, shared: Shared): string {
   const columns = Math.max(...rows.map((it) => it.length));
   const sizes = Array.from({ length: columns }, (_, at) => {
     const width = Math.max(widths[at] ?? widths[widths.length - 1] ?? 12, longest(rows[0]?.[at]) + 2);
     return `<col min="${at + 1}" max="${at + 1}" width="${width}" customWidth="1"/>`;
   });
   const lines = rows.map((row, at) => {
-    const cells = row.map((value, column) => cellOf(value, `${letters(column)}${at + 1}`, at === 0, formats));
+    const cells = row.map((value, column) => cellOf(value, `${letters(column)}${at + 1}`, at === 0, shared));
     return `<row r="${at + 1}">${cells.join("")}</row>`;
   });
   const pane = '<pane ySplit="1" topLeftCell="A2" activePane="bottomLeft" state="frozen"/>';
@@ -110,16 +129,16 @@ function sheetOf({ rows, widths }: Sheet, formats: readonly string[]): string {
 /** The parts of a workbook by their paths. */
 function partsOf(sheets: readonly Sheet[]): Record<string, string> {
   const numbers = sheets.map((_, at) => at + 1);
-  const values = sheets.flatMap(({ rows }) => rows.flat());
-  const formats = [...new Set(values.flatMap((it) => (it !== null && typeof it === "object" ? it.format : [])))];
+  const shared = sharedOf(sheets);
   const part = (path: string, kind: string) =>
     `<Override PartName="/xl/${path}.xml" ContentType="${KIND}.${kind}+xml"/>`;
-  const types = [part("workbook", "sheet.main"), part("styles", "styles"),
+  const types = [part("workbook", "sheet.main"), part("styles", "styles"), part("sharedStrings", "sharedStrings"),
     ...numbers.map((it) => part(`worksheets/sheet${it}`, "worksheet"))];
   const relation = (id: number, kind: string, target: string) =>
     `<Relationship Id="rId${id}" Type="${OFFICE}/${kind}" Target="${target}"/>`;
   const relations = [...numbers.map((it) => relation(it, "worksheet", `worksheets/sheet${it}.xml`)),
-    relation(sheets.length + 1, "styles", "styles.xml")];
+    relation(sheets.length + 1, "styles", "styles.xml"),
+    relation(sheets.length + 2, "sharedStrings", "sharedStrings.xml")];
   const names = sheets.map(({ name }, at) =>
     `<sheet name="${escaped(name)}" sheetId="${at + 1}" r:id="rId${at + 1}"/>`);
   const open = `<Relationships xmlns="${PACKAGE}/relationships">`;
@@ -130,8 +149,9 @@ function partsOf(sheets: readonly Sheet[]): Record<string, string> {
     "xl/workbook.xml":
       `${XML}<workbook xmlns="${MAIN}" xmlns:r="${OFFICE}"><sheets>${names.join("")}</sheets></workbook>`,
     "xl/_rels/workbook.xml.rels": `${XML}${open}${relations.join("")}</Relationships>`,
-    "xl/styles.xml": stylesOf(formats),
-    ...Object.fromEntries(sheets.map((it, at) => [`xl/worksheets/sheet${at + 1}.xml`, sheetOf(it, formats)])),
+    "xl/styles.xml": stylesOf(shared.formats),
+    "xl/sharedStrings.xml": textsOf(shared),
+    ...Object.fromEntries(sheets.map((it, at) => [`xl/worksheets/sheet${at + 1}.xml`, sheetOf(it, shared)])),
   };
 }
 
