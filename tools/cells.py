@@ -1,5 +1,5 @@
-"""What cells of tables say besides members: words for a missing value, errors of spreadsheets, truths, and raised marks.
-The page's reader of tables and the package for Python have the same from here; page/tables/words.txt has the cases."""
+"""What cells of tables say besides members: words for missing values, errors of spreadsheets, truths, raised marks. The
+page's reader of tables and the package for Python have the same from here; page/tables/words.txt has the cases."""
 from __future__ import annotations
 
 import json
@@ -9,8 +9,9 @@ from collections.abc import Iterable
 from facts import Facts
 
 MADE = "Made by tools/made from tools/cells.py: do not edit."
-#: What programs write for a missing value (pandas, R, Julia, JavaScript, databases, pivot tables), what tables print for
-#: one, and marks that repeat the cell above. Capitals count: `NIL` and `NAN` may be codes, and `none` is an answer.
+#: What programs write for a missing value (pandas, R, Julia, JavaScript, databases, pivot tables), what tables print
+#: in its place, and marks that repeat the cell above. Capitals count: `NIL` and `NAN` may be codes, and `none` is an
+#: answer.
 BLANKS = [
     *"NaN nan -NaN -nan NaT NA <NA> #NA N/A n/a N.A. n.a. n.a NULL Null null None missing undefined 1.#IND".split(),
     *"-1.#IND 1.#QNAN -1.#QNAN N/D n/d n.d. k.A. s.o. ... .. … (blank) (leer) (Leer) (vide) (vuoto) ditto".split(),

@@ -90,7 +90,7 @@ def read(text: str) -> Table:
     assert not re.search(r"(?<!\\)%", body), "a comment inside of the table"
     check_braces(body)
     body = body.removeprefix("\\providecommand{\\righttoleft}[1]{#1}\n")
-    sized = re.fullmatch(r"\{\\[a-z]+\\setlength\{\\tabcolsep\}\{[0-9]pt\}\n(.*)\}\n", body, re.DOTALL)
+    sized = re.fullmatch(r"\{\\[a-z]+\\setlength\{\\tabcolsep\}\{[0-9]pt\}\\relax\n(.*)\}\n", body, re.DOTALL)
     body = sized[1] if sized else body
     begun = re.match(r"\\begin\{tabular\}\{rl\*\{(\d+)\}\{r\}\}\n", body)
     assert begun, body[:80]

@@ -11,9 +11,8 @@ from tests.programs.tables import Cell
 
 Rows = Sequence[Sequence[Cell]]
 LOCALES = ("en-US", "de-DE", "fr-FR")
-#: What soffice saves: the end of a name, and its filter.
-WRITER_FILTER = "HTML (StarWriter)"
-#: Numbers of encodings in LibreOffice's filter for text.
+#: LibreOffice's filter for text, and the numbers of its encodings.
+TEXT = "csv:Text - txt - csv (StarCalc)"
 ENCODINGS = {"utf8": 76, "cp1252": 1, "utf16": 65535}
 SETTINGS = """<?xml version="1.0" encoding="UTF-8"?>
 <oor:items xmlns:oor="http://openoffice.org/2001/registry"><item oor:path="/org.openoffice.Setup/L10N">
@@ -44,7 +43,7 @@ def office(folder: Path, locale: str, kind: str, source: Path, out: Path) -> Non
 
 def book_of(rows: Rows, path: Path, change: Callable[[Any], None] = lambda sheet: None) -> Path:
     """A workbook that openpyxl saves, with numbers as people print them."""
-    import openpyxl
+    import openpyxl  # type: ignore[import]
 
     book = openpyxl.Workbook()
     sheet: Any = book.active
@@ -85,11 +84,6 @@ def failed(sheet: Any) -> None:
     sheet.cell(2, 1).value = '=VLOOKUP("nobody",B2:B3,1,FALSE())'
 
 
-def raised(sheet: Any) -> None:
-    """A footnote's number above the line behind the votes of the first member."""
-    from openpyxl.cell.text import InlineFont  # noqa: F401
-
-
 def by_openpyxl(rows: Rows, folder: Path, layout: str) -> Iterator[Path]:
     yield book_of(rows, folder / f"openpyxl-{layout}.xlsx")
     if layout == "A":
@@ -104,7 +98,8 @@ def by_office(rows: Rows, folder: Path, layout: str) -> Iterator[Path]:
         out.mkdir()
         kinds = ["xlsx:Calc MS Excel 2007 XML", "html:HTML (StarCalc)"]
         if locale == LOCALES[0]:
-            kinds += ["xlsm:Calc MS Excel 2007 VBA XML", "xltx:Calc MS Excel 2007 XML Template", "ods", "fods", "dif", "slk"]
+            kinds += ["xlsm:Calc MS Excel 2007 VBA XML", "xltx:Calc MS Excel 2007 XML Template"]
+            kinds += ["ods", "fods", "dif", "slk"]
         for kind in kinds:
             office(folder, locale, kind, source, out)
         yield from sorted(out.iterdir())
@@ -112,7 +107,7 @@ def by_office(rows: Rows, folder: Path, layout: str) -> Iterator[Path]:
             for mark, character in (("comma", 44), ("semicolon", 59), ("tab", 9)):
                 own = out / f"{name}-{mark}"
                 own.mkdir()
-                office(folder, locale, f"csv:Text - txt - csv (StarCalc):{character},34,{number},1,,0,false,true", source, own)
+                office(folder, locale, f"{TEXT}:{character},34,{number},1,,0,false,true", source, own)
                 yield own / f"source-{layout}.csv"
 
 
@@ -126,7 +121,7 @@ def by_gnumeric(rows: Rows, folder: Path, layout: str) -> Iterator[Path]:
 
 def by_pandas(rows: Rows, folder: Path, layout: str) -> Iterator[Path]:
     """What pandas saves: with and without an index, and each way to write a missing value."""
-    import pandas
+    import pandas  # type: ignore[import]
 
     frame = pandas.DataFrame(rows[1:], columns=rows[0]).replace("", None)
     whole = {it: "Int64" for it in frame if "otes" in it and "Casting" not in it}

@@ -1,12 +1,14 @@
 /**
- * Opens files in the page's reader of tables: node reader.mjs READER FILE.. prints a line of JSON for each: the sentence
- * with which it is refused, or the questions, faults and notices, and the members that it gives without an answer.
+ * Opens files in the page's reader of tables: node reader.mjs READER FILE.. prints a line of JSON for each. It has the
+ * sentence with which the file is refused, or the questions and faults, and the members that need no answer.
  */
 import { readFileSync } from "node:fs";
 import { resolve } from "node:path";
 import { parsed } from "../../page/tables/pages.mjs";
 
 const { contentsOf, guessedLayout, partsOfXlsx, readTable, sheetsOfHtml } = await import(resolve(process.argv[2]));
+
+const NO_ANSWERS = { chosen: new Map(), leftOut: new Set() };
 
 /** The sheets of a file. */
 async function sheetsIn(bytes) {
@@ -21,7 +23,7 @@ async function said(file) {
   try {
     const sheets = await sheetsIn(readFileSync(file));
     const [{ sheet }] = sheets;
-    const { base, questions, faults } = readTable(sheet, guessedLayout(sheet), { chosen: new Map(), leftOut: new Set() });
+    const { base, questions, faults } = readTable(sheet, guessedLayout(sheet), NO_ANSWERS);
     const open = questions.filter(({ answer }) => answer === null).map(({ id, words }) => `${id}: ${words}`);
     const wrong = faults.map(({ row, meaning, reason }) => `row ${row}, ${meaning}: ${reason}`);
     const chairs = base?.chairNames ?? {};

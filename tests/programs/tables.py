@@ -62,8 +62,8 @@ def below() -> list[list[Cell]]:
     rows: list[list[Cell]] = [["Director / Alternate", "Casting votes of", "Votes by country", "Total votes"]]
     for chair in board():
         for at, (name, votes) in enumerate(chair.members):
-            own: Cell = (chair.name, chair.alternate)[at] if at < 2 and len(chair.members) > 1 else ""
-            rows.append([own if at or len(chair.members) > 1 else chair.name, name, votes, chair.votes if at == 0 else ""])
+            own = (chair.name, chair.alternate)[at] if at < 2 else ""
+            rows.append([own, name, votes, chair.votes if at == 0 else ""])
     return rows
 
 

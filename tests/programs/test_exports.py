@@ -1,4 +1,4 @@
-"""What the page exports, opened by the programs of those who use it: figures in Inkscape, LibreOffice, rsvg and cairosvg,
+"""What the page exports, opened by the programs of its users: figures in Inkscape, LibreOffice, rsvg and cairosvg;
 tables in pandas, R's readxl and openxlsx and LibreOffice, LaTeX in pdfLaTeX and biber. Values are compared."""
 from __future__ import annotations
 
@@ -12,7 +12,7 @@ from typing import Any
 
 import pytest
 
-from tests.programs.makers import office, run
+from tests.programs.makers import TEXT, office, run
 from tests.programs.tables import TOP
 
 sys.path.insert(0, str(TOP / "page" / "tests"))
@@ -45,7 +45,7 @@ write.csv(data.frame(one$name, one$votes, one$power_share), "read.csv", row.name
 @pytest.fixture(scope="module")
 def exported(tmp_path_factory: pytest.TempPathFactory) -> Iterator[dict[str, bytes]]:
     """The files that the page exports for the example with two changes, by the ends of their names."""
-    from chromium import Page  # type: ignore[import-not-found]
+    from chromium import Page  # type: ignore[import]
     from selenium.webdriver.common.keys import Keys
 
     page = Page(TOP / "page" / "out" / "board.html", tmp_path_factory.mktemp("downloads"))
@@ -72,13 +72,13 @@ def exported(tmp_path_factory: pytest.TempPathFactory) -> Iterator[dict[str, byt
 
 def pixels(png: bytes) -> tuple[int, int, list[tuple[int, int, int]]]:
     """The size of a PNG of 8 bits and its means of red, green and blue in some parts, each row from left to right."""
-    from PIL import Image
+    from PIL import Image  # type: ignore[import]
 
     picture = Image.open(io.BytesIO(png)).convert("RGBA")
     white = Image.new("RGBA", picture.size, "white")
     white.alpha_composite(picture)
     small = white.convert("RGB").resize((PARTS, PARTS), Image.Resampling.BOX)
-    return (*picture.size, list(small.getdata()))
+    return picture.width, picture.height, list(small.getdata())
 
 
 def drawn(renderer: str, folder: Path) -> bytes:
@@ -133,18 +133,19 @@ def test_workbook_in_libreoffice(locale: str, exported: dict[str, bytes], tmp_pa
     (tmp_path / "it.xlsx").write_bytes(exported["xlsx"])
     out = tmp_path / "out"
     out.mkdir()
-    office(tmp_path, locale, "csv:Text - txt - csv (StarCalc):9,34,76,1,,0,false,false,false,false,false,1", tmp_path / "it.xlsx", out)
+    kind = f"{TEXT}:9,34,76,1,,0,false,false,false,false,false,1"
+    office(tmp_path, locale, kind, tmp_path / "it.xlsx", out)
     (saved,) = out.iterdir()
     heads, *rows = list(csv.reader(io.StringIO(saved.read_text()), delimiter="\t"))
     tex = exported["tex"].decode()
     points = [at for at, it in enumerate(heads) if "points" in it]
     assert points, heads
     numbers = [float(row[at].replace(",", ".")) for row in rows[:-1] for at in points if row[at]]
-    assert max(map(abs, numbers)) > 0.01 and all(f"{abs(it):.2f}" in tex for it in numbers), numbers
+    assert max(abs(it) for it in numbers) > 0.01 and all(f"{abs(it):.2f}" in tex for it in numbers), numbers
 
 
 def test_csv_in_pandas(exported: dict[str, bytes]) -> None:
-    import pandas
+    import pandas  # type: ignore[import]
 
     frame: Any = pandas.read_csv(io.BytesIO(exported["csv"]), comment="#")
     wanted = rows_of(exported["csv"].decode())

@@ -66,7 +66,8 @@ def test_saved(program: str, layout: str, reader: Path, tmp_path: Path) -> None:
     # Catches: a file of a real program that is silently read as another board, or that is stopped by a misleading word.
     files = list(makers.MAKERS[program](LAYOUTS[layout](), tmp_path, layout))
     assert files
-    table = [(str(path.relative_to(tmp_path)), verdict(it)) for path, it in zip(files, opened(reader, files), strict=True)]
+    found = zip(files, opened(reader, files), strict=True)
+    table = [(str(path.relative_to(tmp_path)), verdict(it)) for path, it in found]
     for name, said in table:
         print(f"{name}: {said[:150]}")
     for name, said in table:
@@ -101,11 +102,10 @@ def test_formulas_without_values(reader: Path, tmp_path: Path) -> None:
     assert "members" in opened(reader, [out / "source.xlsx"])[0]
 
 
-
-
 def test_raised_footnote(reader: Path, tmp_path: Path) -> None:
     # Catches: a footnote's number above the line that becomes a digit of the votes, in what Calc and Writer save.
-    page = "<html><table><tr><th>Member</th><th>Votes</th><th>Chair</th></tr><tr><td>Marenia</td><td>5663<sup>2</sup></td>"
+    heads = "<tr><th>Member</th><th>Votes</th><th>Chair</th></tr>"
+    page = f"<html><table>{heads}<tr><td>Marenia</td><td>5663<sup>2</sup></td>"
     rows = "".join(f"<tr><td>{it}</td><td>8{at}1</td><td>2</td></tr>" for at, it in enumerate(["Roswick", "Lomenia"]))
     source = tmp_path / "source.html"
     source.write_text(f"{page}<td>1</td></tr>{rows}</table></html>")

@@ -72,8 +72,9 @@ export async function workbookFile(app: App): Promise<Blob> {
   const { all, sources } = registers(app, shown);
   const table = tableOf(all);
   const numbers = table.map((row) => row.map((cell, at) => valueIn(cell, table[0]?.[at])));
+  const cells = withVetoes(chairCells(columnsOf(app, shown), app.view));
   const sheets: Sheet[] = [
-    { name: "Shown", rows: shownRows(withVetoes(chairCells(columnsOf(app, shown), app.view)), app.view), widths: [8, 34, 18] },
+    { name: "Shown", rows: shownRows(cells, app.view), widths: [8, 34, 18] },
     { name: "Table", rows: numbers, widths: WIDTHS },
     { name: "Fractions", rows: fractionRows(table), widths: [14, 14, 14, 10, 8, 30, 34] },
     { name: "Source", rows: await sourceRows(app, shown, sources), widths: [24, 110] },
@@ -115,10 +116,11 @@ function shownValue(cell: Cell | null, view: View): Value {
   if (!cell?.value) return null;
   const { value, decimal, unit } = cell;
   const places = /\.([0-9]+)( %)?$/.exec(decimal)?.[1]?.length ?? 0;
-  const digits = places ? `0.${"0".repeat(places)}` : "#,##0";
+  const isPercent = decimal.endsWith(" %");
+  const digits = places ? `0.${"0".repeat(places)}` : isPercent ? "0" : "#,##0";
   const isPoints = unit !== "" && !view.fractions;
   const own = isPoints ? { ...value, numerator: 100n * value.numerator } : value;
-  return { number: Number(rounded(own, PLACES)), format: decimal.endsWith(" %") ? `${digits.replace("#,##", "")}%` : digits };
+  return { number: Number(rounded(own, PLACES)), format: `${digits}${isPercent ? "%" : ""}` };
 }
 
 /** That table as numbers for a sheet of a workbook. */

@@ -133,6 +133,7 @@ function widthOf(text: string): number {
  * those of 10 points, and the space beside a column. */
 const WAYS = [
   [13, "", 1, 6], [9, "", 1, 6], [9, "\\small", 0.93, 5], [9, "\\footnotesize", 0.86, 4], [9, "\\scriptsize", 0.8, 3],
+  [9, "\\scriptsize", 0.8, 2],
 ] as const;
 /** The width of the text of LaTeX's article, in points. */
 const TEXT_WIDTH = 345;
@@ -167,8 +168,8 @@ function fitted(heads: readonly TexHead[], rows: readonly TexRow[]): Fit {
 /** A sentence on a width. */
 function widthWords(width: number): string {
   const fits = `The table is about ${width} pt wide, and the text of article ${TEXT_WIDTH} pt`;
-  return width <= TEXT_WIDTH ? `${fits}.` : `${fits}: it needs a page on its side (sidewaystable of rotating), or fewer ` +
-    "columns, which Display hides.";
+  const what = "it needs a page on its side (sidewaystable of rotating), or fewer columns, which Display hides";
+  return `${fits}${width <= TEXT_WIDTH ? "" : `: ${what}`}.`;
 }
 
 const WORDS = [
@@ -177,11 +178,12 @@ const WORDS = [
 ];
 /** What pdfLaTeX prints with the encoding T1, and what of it needs that encoding. */
 const KNOWN = new RegExp(
-  "[\\u0000-\\u0125\\u0128-\\u0137\\u0139-\\u013e\\u0141-\\u0148\\u014a-\\u0165\\u0168-\\u017e\\u0192\\u01c4-\\u01d4\\u01e2" +
-    "\\u01e3\\u01e6-\\u01eb\\u01f0\\u01f4\\u01f5\\u0218-\\u021b\\u0232\\u0233\\u0237\\u1e02\\u1e03\\u1e0d\\u1e1e-\\u1e21\\u1e25" +
-    "\\u1e30\\u1e31\\u1e37\\u1e43\\u1e45\\u1e47\\u1e5b\\u1e63\\u1e6d\\u1e8e-\\u1e91\\u1e9e\\u1ef2\\u1ef3\\u200c\\u2010-\\u2016" +
-    "\\u2018-\\u201a\\u201c-\\u201e\\u2020-\\u2022\\u2026\\u2030\\u2031\\u2039-\\u203b\\u2044\\u20a1\\u20a4\\u20a6\\u20a9" +
-    "\\u20ab\\u20ac\\u20b1\\u2116\\u2122]",
+  "[\\u0000-\\u0125\\u0128-\\u0137\\u0139-\\u013e\\u0141-\\u0148\\u014a-\\u0165\\u0168-\\u017e\\u0192" +
+    "\\u01c4-\\u01d4\\u01e2\\u01e3\\u01e6-\\u01eb\\u01f0\\u01f4\\u01f5\\u0218-\\u021b\\u0232\\u0233" +
+    "\\u0237\\u1e02\\u1e03\\u1e0d\\u1e1e-\\u1e21\\u1e25\\u1e30\\u1e31\\u1e37\\u1e43\\u1e45\\u1e47\\u1e5b" +
+    "\\u1e63\\u1e6d\\u1e8e-\\u1e91\\u1e9e\\u1ef2\\u1ef3\\u200c\\u2010-\\u2016\\u2018-\\u201a" +
+    "\\u201c-\\u201e\\u2020-\\u2022\\u2026\\u2030\\u2031\\u2039-\\u203b\\u2044\\u20a1\\u20a4\\u20a6" +
+    "\\u20a9\\u20ab\\u20ac\\u20b1\\u2116\\u2122]",
 );
 const OF_T1 = /[«»ÐÞðþĄąĐđĘęĮįŊŋŲųǪǫ‚„‹›]/;
 
@@ -191,8 +193,9 @@ function letterWords(names: readonly string[]): string[] {
   const unknown = letters.filter((it) => !KNOWN.test(it)).sort();
   const hasT1 = letters.some((it) => OF_T1.test(it));
   return [
-    ...(unknown.length ? [`Names have letters that pdfLaTeX lacks (${unknown.join(" ")}): use LuaLaTeX or XeLaTeX, and a ` +
-      "font with them."] : []),
+    ...(unknown.length ? [
+      `Names have letters that pdfLaTeX lacks (${unknown.join(" ")}): use LuaLaTeX or XeLaTeX, and a font with them.`,
+    ] : []),
     ...(hasT1 ? ["Names have letters that pdfLaTeX prints only with \\usepackage[T1]{fontenc}."] : []),
   ];
 }
@@ -221,7 +224,7 @@ export function texTable(
   return [
     ...comments,
     ...(hasTurned ? ["\\providecommand{\\righttoleft}[1]{#1}"] : []),
-    ...(size ? [`{${size}\\setlength{\\tabcolsep}{${space}pt}`] : []),
+    ...(size ? [`{${size}\\setlength{\\tabcolsep}{${space}pt}\\relax`] : []),
     `\\begin{tabular}{rl*{${heads.length}}{r}}`,
     "\\toprule",
     ...heading(heads, found),

@@ -49,7 +49,8 @@ function stylesOf(formats: readonly string[]): string {
     xf(49, 0, ` quotePrefix="1"${isFormat}/>`),
     ...formats.map((_, at) => xf(OWN_FORMAT + at, 0, `${isFormat}/>`)),
   ];
-  return `${XML}<styleSheet xmlns="${MAIN}">${own.length ? `<numFmts count="${own.length}">${own.join("")}</numFmts>` : ""}` +
+  const codes = own.length ? `<numFmts count="${own.length}">${own.join("")}</numFmts>` : "";
+  return `${XML}<styleSheet xmlns="${MAIN}">${codes}` +
     `<fonts count="2">${font("")}${font("<b/>")}</fonts><fills count="2">${fill("none")}${fill("gray125")}</fills>` +
     '<borders count="1"><border><left/><right/><top/><bottom/><diagonal/></border></borders>' +
     '<cellStyleXfs count="1"><xf numFmtId="0" fontId="0" fillId="0" borderId="0"/></cellStyleXfs>' +

@@ -20,7 +20,8 @@ export function isMissing(cell: string): boolean {
 /** Whether a cell is a spreadsheet's true or false: in English, or in capitals. */
 function isTruth(cell: string): boolean {
   const small = cell.toLowerCase();
-  return (TRUE.includes(small) || FALSE.includes(small)) && (cell === cell.toUpperCase() || /^(true|false)$/.test(small));
+  if (/^(true|false)$/.test(small)) return true;
+  return cell === cell.toUpperCase() && [...TRUE, ...FALSE].includes(small);
 }
 
 /** Why a cell is no member's, in words; empty if it may be. */

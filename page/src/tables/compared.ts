@@ -64,7 +64,8 @@ export function askWhole(sheet: Sheet, { lines, seats }: Rows, questions: Questi
   }
   const isSaid = ["merged", "single", "no-chairs", "aggregates"].some((it) => questions.isAsked(it));
   if (isLong && seats.size > 0 && 2 * free.length > members.length && !isSaid) {
-    const words = `${free.length} of ${members.length} members are in no chair: ${rowsWords(free.map(({ row }) => row))}`;
+    const rows = rowsWords(free.map(({ row }) => row));
+    const words = `${free.length} of ${members.length} members are in no chair: ${rows}`;
     questions.ask({ id: "most-free", kind: "counts", words: `${words}. Is that right?`, options: options(words) });
   }
   askCount(sheet, lines, "members", members.length, questions);
@@ -121,12 +122,13 @@ export function comparedOf(sheet: Sheet, layout: Layout, { lines, seats }: Rows,
     const printed = printedCount(sheet, lines, what, read);
     return printed === null ? "" : String(printed);
   };
+  const nameOf = (chair: number) => base.chairNames[chair] ?? `chair ${chair}`;
   const [most] = [...chairs].sort(([, one], [, other]) => other.length - one.length);
   const odd = proved.length + totals.length + percents.length ? [] : outOfOrder(members);
   return [
     line("Members", String(members.length), count("members", members.length)),
     line("Chairs", String(chairs.size), count("chairs", chairs.size)),
-    ...(most ? [line("Most members of a chair", `${most[1].length}: ${base.chairNames[most[0]] ?? `chair ${most[0]}`}`)] : []),
+    ...(most ? [line("Most members of a chair", `${most[1].length}: ${nameOf(most[0])}`)] : []),
     line("All votes", grouped(sum), totals.map(({ votes, row }) => `${grouped(votes ?? 0)} in row ${row}`).join(", "),
       totals.some(({ votes }) => votes !== sum)),
     ...extremes(members, proved.length + totals.length + percents.length > 0),

@@ -20,7 +20,8 @@ import { askSums, withSums } from "./sums";
 import { askSuspensions } from "./suspensions";
 import { withHeadings, withTotals } from "./totals";
 import {
-  MEANING_WORDS, MEANINGS, type Answers, type CellFault, type Layout, type ReadTable, type Sheet, type Struck, type TableMember,
+  MEANING_WORDS, MEANINGS, type Answers, type CellFault, type Layout, type ReadTable, type Sheet, type Struck,
+  type TableMember,
 } from "./types";
 
 /** What a row is in words, if it isn't a member. */

@@ -1,4 +1,4 @@
-/** Text that is struck out in a cell of a workbook or a web page, which isn't read, and whose row is asked about; and the
+/** Text that is struck out in a cell of a workbook or a web page: it isn't read, and its row is asked about. And the
  * tags of a web page that strike out, or lift off the line. */
 
 /** The text of a cell, what is left of it, and what is struck out of it. */

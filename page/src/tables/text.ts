@@ -51,8 +51,9 @@ function checkQuotes(text: string, delimiter: string): void {
   if (at < 0) return;
   const row = bare.slice(0, at).split(/\r\n|\r|\n/).length;
   const isSpaced = /^("[^"]*" )+("[^"]*")$/m.test(text);
-  const blanks = ": cells with blanks between them, as R's write.table has, aren't read: write.csv has commas";
-  throw new Unreadable(`row ${row}: a quoted cell isn't closed, or something follows its quotes${isSpaced ? blanks : ""}`);
+  const words = ": cells with blanks between them, as R's write.table has, aren't read: write.csv has commas";
+  const blanks = isSpaced ? words : "";
+  throw new Unreadable(`row ${row}: a quoted cell isn't closed, or something follows its quotes${blanks}`);
 }
 
 /** The notice on words for missing values. */
