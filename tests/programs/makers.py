@@ -84,6 +84,37 @@ def failed(sheet: Any) -> None:
     sheet.cell(2, 1).value = '=VLOOKUP("nobody",B2:B3,1,FALSE())'
 
 
+SHEET = """<?xml version="1.0" encoding="UTF-8"?>
+<office:document xmlns:office="urn:oasis:names:tc:opendocument:xmlns:office:1.0"
+ xmlns:style="urn:oasis:names:tc:opendocument:xmlns:style:1.0"
+ xmlns:text="urn:oasis:names:tc:opendocument:xmlns:text:1.0"
+ xmlns:table="urn:oasis:names:tc:opendocument:xmlns:table:1.0" office:version="1.2"
+ office:mimetype="application/vnd.oasis.opendocument.spreadsheet"><office:automatic-styles>
+<style:style style:name="R" style:family="text"><style:text-properties style:text-position="super 58%"/></style:style>
+</office:automatic-styles><office:body><office:spreadsheet><table:table table:name="One">{}</table:table>
+</office:spreadsheet></office:body></office:document>
+"""
+#: Members with footnotes, which stand between two `^`, behind votes and names.
+RAISED = (
+    ("Member", "Votes", "Chair"),
+    ("Marenia", "5663^2^", "1"),
+    ("Roswick^a^", "801", "2"),
+    ("Lomenia", "811^[3]^", "2"),
+)
+
+
+def raised(path: Path) -> Path:
+    """A spreadsheet of LibreOffice with footnotes above the line."""
+
+    def cell(text: str) -> str:
+        inner = re.sub(r"\^(.*?)\^", r'<text:span text:style-name="R">\1</text:span>', text)
+        return f'<table:table-cell office:value-type="string"><text:p>{inner}</text:p></table:table-cell>'
+
+    rows = "".join(f"<table:table-row>{''.join(map(cell, row))}</table:table-row>" for row in RAISED)
+    path.write_text(SHEET.format(rows))
+    return path
+
+
 def by_openpyxl(rows: Rows, folder: Path, layout: str) -> Iterator[Path]:
     yield book_of(rows, folder / f"openpyxl-{layout}.xlsx")
     if layout == "A":

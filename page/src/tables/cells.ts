@@ -31,7 +31,7 @@ export function errorWords(cell: string): string {
   return isTruth(cell) ? "a spreadsheet's true or false" : "";
 }
 
-/** Why a cell that isn't a name is no member's, in words; empty if it may be. A name may begin like a formula. */
+/** Why a cell of a number or a code is no member's, in words; empty if it may be. A name may begin like a formula. */
 export function valueErrorWords(cell: string): string {
   return /^=\S/.test(cell) ? "a formula without its value: save the file in a spreadsheet" : errorWords(cell);
 }

@@ -82,7 +82,7 @@ function errorFaults({ columns }: Layout, lines: readonly Line[]): CellFault[] {
   const used = MEANINGS.filter((it) => columns[it] >= 0 && it !== "suspended");
   return lines.filter(({ role }) => role !== "header" && role !== "note").flatMap(({ row, raw }) =>
     used.flatMap((meaning): CellFault[] => {
-      const reason = /name/i.test(meaning) ? errorWords(raw[meaning]) : valueErrorWords(raw[meaning]);
+      const reason = /name|^chair$/i.test(meaning) ? errorWords(raw[meaning]) : valueErrorWords(raw[meaning]);
       return reason ? [{ row, meaning, reason }] : [];
     }));
 }
