@@ -76,7 +76,7 @@ def formulas(sheet: Any) -> None:
 def unvalued(sheet: Any) -> None:
     """Puts formulas in place of votes."""
     for at in range(2, sheet.max_row + 1):
-        sheet.cell(at, 3).value = f"={sheet.cell(at, 3).value}+0"
+        sheet.cell(at, 4).value = f"={sheet.cell(at, 4).value}+0"
 
 
 def failed(sheet: Any) -> None:

@@ -99,11 +99,11 @@ def test_formulas_without_values(reader: Path, tmp_path: Path) -> None:
     out = tmp_path / "out"
     out.mkdir()
     makers.office(tmp_path, "en-US", "xlsx:Calc MS Excel 2007 XML", source, out)
-    assert "members" in opened(reader, [out / "source.xlsx"])[0]
+    assert verdict(opened(reader, [out / "source.xlsx"])[0]) == "right"
 
 
 def test_raised_footnote(reader: Path, tmp_path: Path) -> None:
-    # Catches: a footnote's number above the line that becomes a digit of the votes. (In HTML, Calc writes it on the line.)
+    # Catches: a raised footnote that becomes a digit of the votes. (In HTML, Calc writes it on the line.)
     out = tmp_path / "out"
     out.mkdir()
     makers.office(tmp_path, "en-US", "xlsx:Calc MS Excel 2007 XML", makers.raised(tmp_path / "raised.fods"), out)

@@ -122,6 +122,7 @@ export function comparedOf(sheet: Sheet, layout: Layout, { lines, seats }: Rows,
     const printed = printedCount(sheet, lines, what, read);
     return printed === null ? "" : String(printed);
   };
+  const [free, outside] = [members.filter(({ chair }) => chair === null), base.members.filter(({ row }) => row === 0)];
   const nameOf = (chair: number) => base.chairNames[chair] ?? `chair ${chair}`;
   const [most] = [...chairs].sort(([, one], [, other]) => other.length - one.length);
   const odd = proved.length + totals.length + percents.length ? [] : outOfOrder(members);
@@ -129,6 +130,8 @@ export function comparedOf(sheet: Sheet, layout: Layout, { lines, seats }: Rows,
     line("Members", String(members.length), count("members", members.length)),
     line("Chairs", String(chairs.size), count("chairs", chairs.size)),
     ...(most ? [line("Most members of a chair", `${most[1].length}: ${nameOf(most[0])}`)] : []),
+    ...(free.length ? [line("Members in no chair", String(free.length))] : []),
+    ...outside.map(({ votes }) => line("Outside the table", grouped(votes))),
     line("All votes", grouped(sum), totals.map(({ votes, row }) => `${grouped(votes ?? 0)} in row ${row}`).join(", "),
       totals.some(({ votes }) => votes !== sum)),
     ...extremes(members, proved.length + totals.length + percents.length > 0),

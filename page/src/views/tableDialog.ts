@@ -284,7 +284,8 @@ function comparedTable({ compared }: ReadTable): Child {
       hasPrinted && h("td", { class: look }, printed));
   });
   const heads = ["Compare with the table", "Read", ...(hasPrinted ? ["Printed in the table"] : [])];
-  return h("div", { class: "scroll" }, h("table", { id: "table-compared" },
+  const region = { class: "scroll", tabindex: 0, role: "region", "aria-label": "What was read, beside the table" };
+  return h("div", region, h("table", { id: "table-compared" },
     h("thead", {}, h("tr", {}, heads.map((it) => h("th", { scope: "col", class: "text" }, it)))),
     h("tbody", {}, rows)));
 }

@@ -36,6 +36,8 @@ AGGREGATE = re.compile(
 ERROR = re.compile("|".join(ERRORS), re.IGNORECASE)
 #: The first bytes of files that aren't texts, and what they are.
 KINDS = {b"PK": "a workbook or another zip file", b"\xd0\xcf\x11\xe0": "a file of an old Office", b"%PDF": "a PDF"}
+#: In a table with fewer members a person sees that all votes are 0. board.html has the same.
+LEAST_MEMBERS = 10
 LETTERS = "ABCDEFGHIJKLMNOPQRSTUVWXYZ"
 #: Words that names of countries are compared without, and short forms of words, as tools/countries.py has them.
 LEFT_OUT = {"the", "of", "and", "de", "d", "republic", "rep", "kingdom", ""}
@@ -267,6 +269,8 @@ def doubts_of(members: Sequence[StrictMember]) -> dict[int, str]:
     for it in merged(members):
         who = repr(it.code or it.name)
         doubts.setdefault(it.row, f"{who} has no chair, below a row that has one, as in a table with merged cells")
+    if len(members) >= LEAST_MEMBERS and not any(it.votes for it in members):
+        doubts[members[0].row] = "all votes are 0, as in a workbook whose formulas no spreadsheet has counted"
     for it, what in loose(members):
         doubts.setdefault(it.row, f"{it.code or it.name!r} {what}")
     return doubts
