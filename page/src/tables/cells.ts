@@ -27,7 +27,8 @@ function isTruth(cell: string): boolean {
 /** Why a cell is no member's, in words; empty if it may be. */
 export function errorWords(cell: string): string {
   if (/^##/.test(cell)) return "a number that its column was too narrow to show";
-  if (ERROR.test(cell)) return "a spreadsheet's error";
+  // A name may begin with a number sign; errors have no small letters behind it.
+  if (ERROR.test(cell) && (!cell.startsWith("#") || cell === cell.toUpperCase())) return "a spreadsheet's error";
   return isTruth(cell) ? "a spreadsheet's true or false" : "";
 }
 

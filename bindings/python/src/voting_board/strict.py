@@ -163,8 +163,10 @@ def problem_of_word(cell: str) -> str:
     """What is wrong with a cell whatever the table: a word for a missing value, or a spreadsheet's error."""
     if cell.strip() and cell.strip().strip(UNSEEN) in ("", *BLANKS):
         return "stands for a missing value: leave the cell empty"
+    # A name may begin with a number sign; errors have no small letters behind it.
+    is_error = ERROR.fullmatch(cell) and (not cell.startswith("#") or cell == cell.upper())
     is_truth = cell.lower() in TRUE + FALSE and (cell == cell.upper() or cell.lower() in ("true", "false"))
-    return "is a spreadsheet's error" if ERROR.fullmatch(cell) or is_truth else ""
+    return "is a spreadsheet's error" if is_error or is_truth else ""
 
 
 def problem_of_name(column: str, cell: str) -> str:
