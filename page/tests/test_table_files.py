@@ -275,9 +275,12 @@ def test_blanks_of_a_workbook(page: Page) -> None:
     opened(page, FORMULAS, "formulas")
     page.click("#export")
     with ZipFile(io.BytesIO(page.downloaded("#export-xlsx")[1])) as book:
-        texts = "".join(book.read(it).decode() for it in book.namelist() if "sharedStrings" in it)
+        texts = book.read("xl/sharedStrings.xml").decode()
+        cells = "".join(book.read(it).decode() for it in book.namelist() if "worksheets" in it)
     found = re.findall('<t( xml:space="preserve")?>([^<]*)</t>', texts)
-    assert len(found) == texts.count("<t>") + texts.count("<t ") > 100
+    places = {int(it) for it in re.findall('t="s"><v>([0-9]+)</v>', cells)}
+    assert len(found) == texts.count("<t>") + texts.count("<t ") and cells.count('t="s"') > 100
+    assert places == set(range(len(found))) and "<t" not in re.sub("<t[a-z]", "", cells)
     assert all(bool(space) == (text != text.strip()) for space, text in found)
 
 
