@@ -2,19 +2,30 @@
 import { BLANKS, ERRORS, FALSE, RAISED_DIGITS, RAISED_LETTERS, TRUE, UNSEEN } from "./words";
 
 const MISSING = new Set(BLANKS);
-const UNSEEN_ONES = new RegExp(`^[${UNSEEN}\\s]+|[${UNSEEN}\\s]+$`, "gu");
 const ERROR = new RegExp(`^(?:${ERRORS.join("|")})$`, "iu");
 const LETTERS = [...RAISED_LETTERS];
 
+const isUnseen = (letter: string | undefined): boolean =>
+  letter !== undefined && (UNSEEN.includes(letter) || letter.trim() === "");
+
+/** A cell without blanks and unseen letters around it. Each letter is looked at once. */
+function bareCell(cell: string): string {
+  const plain = cell.trim();
+  let [from, to] = [0, plain.length];
+  while (from < to && isUnseen(plain[from])) from += 1;
+  while (to > from && isUnseen(plain[to - 1])) to -= 1;
+  return plain.slice(from, to);
+}
+
 /** A cell without blanks and unseen letters around it; empty if it stands for a missing value. */
 export function plainCell(cell: string): string {
-  const plain = cell.replace(UNSEEN_ONES, "");
+  const plain = bareCell(cell);
   return MISSING.has(plain) ? "" : plain;
 }
 
 /** Whether a cell, without blanks around it, stands for a missing value. */
 export function isMissing(cell: string): boolean {
-  return MISSING.has(cell.replace(UNSEEN_ONES, ""));
+  return MISSING.has(bareCell(cell));
 }
 
 /** Whether a cell is a spreadsheet's true or false: in English, or in capitals. */
