@@ -218,6 +218,8 @@ page-units: page  ## the page's modules, in Node
 	$(call part,env MODULE=$(CURDIR)/$(MODULE) page/units/run)
 page-tests: $(PROGRAM) page  ## board.html in Chromium and Firefox
 	$(call part,page/tests/run -n 2 --dist=loadfile)
+programs: page  ## tables that other programs saved, in the page's reader, and its exports in other programs
+	$(call part,tests/run tests/programs)
 release-tests: release $(answers)  ## a release, unpacked and run without the toolchain
 	$(call part,env BOARD_ANSWERS=$(dir $(answers)) tests/run tests/release -n $(JOBS))
 from-text: $(CRATES:%=$O/deep/%.proved)  ## all proofs, the toolchain's too, from their text
@@ -229,7 +231,7 @@ FIRST    := docs lint style tools
 UNPROVED := page-tests r python rust javascript recipes tables page-units
 PROVED   := prove tried drawn definitions stress memory cases promises independent register script steps steps-tests
 PROVED   += targets compilers
-DEEPER   := release-tests second
+DEEPER   := release-tests second programs
 CHECKS   := docs lint tables page-units cases promises independent
 .PHONY: $(FIRST) $(UNPROVED) $(PROVED) $(DEEPER) edits unproved proved
 unproved:

@@ -10,6 +10,7 @@
  *     -- answers          question = option; `leave ROW`; `votes = COLUMN`; `thousands = .`
  *     -- members          the strict table without its header, once the answers are given
  *     -- notices          words that some notice or choice has, one a line
+ *     -- compared         what was read beside what is printed, with ` | ` between them; `!` behind what is off
  *     -- unreadable       words of the sentence with which the text is refused
  *
  * A case without `questions` asks nothing; one without `faults` has none.
@@ -45,6 +46,7 @@ function caseOf(file, text) {
     answers: linesOf("answers"),
     members: parts.has("members") ? linesOf("members").map(plain) : null,
     notices: linesOf("notices").map(plain),
+    compared: linesOf("compared").map(plain),
     unreadable: parts.has("unreadable") ? linesOf("unreadable") : null,
   };
 }

@@ -59,7 +59,7 @@ function sheetIn({ table, kind }) {
 }
 
 function check(it) {
-  const { table, questions, faults, answers, members, notices, unreadable } = it;
+  const { table, questions, faults, answers, members, notices, compared, unreadable } = it;
   if (unreadable) {
     for (const words of unreadable) assert.ok(refusalOf(table).includes(words), refusalOf(table) || "it is read");
     return;
@@ -71,11 +71,13 @@ function check(it) {
   assert.equal(first.base !== null, !questions.length && !faults.length);
   if (!members) return;
   const { layout, answers: given } = answered(sheet, answers);
-  const { base, questions: open, faults: left } = readTable(sheet, layout, given);
+  const { base, questions: open, faults: left, compared: found } = readTable(sheet, layout, given);
   const why = [...open.map((it) => `${it.words} ${it.answer}`), ...left.map((it) => `${it.row} ${it.reason}`)];
   assert.ok(base, `not whole: ${why.join("; ")}`);
   assert.deepEqual(rowsOf(base), members, base.choices.join("\n"));
   for (const words of notices) assert.ok(base.choices.some((it) => it.includes(words)), base.choices.join("\n"));
+  const lines = found.map(({ what, read, printed, isOff }) => `${what} | ${read} | ${printed}${isOff ? " !" : ""}`);
+  for (const line of compared) assert.ok(lines.includes(line), lines.join("\n"));
   checkNothingIsLost(sheet, layout, base);
   checkNothingIsMended(sheet, layout, base);
   checkAgain(base);

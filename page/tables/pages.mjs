@@ -1,7 +1,8 @@
 /** Documents of HTML in which all elements but `<br>` have an end, with what the reader asks of a browser's. */
 
 const NAMED = { lt: "<", gt: ">", amp: "&", nbsp: "\u00a0" };
-const plain = (text) => text.replace(/&(lt|gt|amp|nbsp);/g, (_, it) => NAMED[it]);
+const plain = (text) => text.replace(/&(lt|gt|amp|nbsp);|&#([0-9]+);/g, (_, name, code) =>
+  (name ? NAMED[name] : String.fromCodePoint(Number(code))));
 
 class Node {
   childNodes = [];

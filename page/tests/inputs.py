@@ -98,8 +98,8 @@ REFUSED: dict[str, tuple[str, dict[int, str]]] = {
         {2: "'40.000': a decimal point", 3: "'8.000': a decimal point"},
     ),
     "a comma as decimal mark": (
-        "code;votes;chair\nAAA;831401,0;1\nBBB;831401.0;2\nCCC;831.401.0;2\n",
-        {2: "'831401,0': a decimal comma", 4: "'831.401.0': no whole number"},
+        "code;votes;chair\nAAA;831401,5;1\nBBB;831401.0;2\nCCC;831.401.0;2\n",
+        {2: "'831401,5': a decimal comma", 4: "'831.401.0': no whole number"},
     ),
     "chairs with decimals": (HEAD + 'AAA,5,"2,5"\nBBB,6,1.5\n', {2: "'2,5': BadChair", 3: "'1.5': BadChair"}),
     "a number among chairs by name": (

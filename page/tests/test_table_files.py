@@ -274,9 +274,12 @@ def test_blanks_of_a_workbook(page: Page) -> None:
     opened(page, FORMULAS, "formulas")
     page.click("#export")
     with ZipFile(io.BytesIO(page.downloaded("#export-xlsx")[1])) as book:
-        texts = "".join(book.read(it).decode() for it in book.namelist() if "worksheets" in it)
+        texts = book.read("xl/sharedStrings.xml").decode()
+        cells = "".join(book.read(it).decode() for it in book.namelist() if "worksheets" in it)
     found = re.findall('<t( xml:space="preserve")?>([^<]*)</t>', texts)
-    assert len(found) == texts.count("<t>") + texts.count("<t ") > 100
+    places = {int(it) for it in re.findall('t="s"><v>([0-9]+)</v>', cells)}
+    assert len(found) == texts.count("<t>") + texts.count("<t ") and cells.count('t="s"') > 100
+    assert places == set(range(len(found))) and "<t" not in re.sub("<t[a-z]", "", cells)
     assert all(bool(space) == (text != text.strip()) for space, text in found)
 
 
@@ -341,9 +344,12 @@ def test_workbook_of_what_is_shown(study: Page) -> None:
     heads, *rows, sums = (row[:-1] for row in workbook(study)[1]["Shown"].iter_rows(values_only=True))
     shown = table_rows(study)
     assert [row[0] for row in rows] == list(shown) and len(heads) == 2 + 3 * len(MAJORITIES) + 2
+    # A column of points has a hundred times the fraction, as its head says.
+    units = [100 if ", points" in head else 1 for head in heads[2:]]
+    assert 100 in units
     for chair, _, *cells in rows:
-        fractions = [float(Fraction(fraction)) for _, fraction in shown[chair][1:]]
-        assert list(cells) == fractions
+        fractions = [Fraction(fraction) for _, fraction in shown[chair][1:]]
+        assert list(cells) == [float(unit * it) for unit, it in zip(units, fractions, strict=True)]
     assert sums[1] == "All chairs" and sums[2] == 1 and sums[-1] == sum(row[-1] for row in rows)
 
 

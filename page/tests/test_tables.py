@@ -21,6 +21,7 @@ BROWSERS = EVERY
 NOT_IN_FIREFOX = {
     "test_paste_html",
     "test_paste_html_without_merged_cells",
+    "test_paste_of_a_text_program",
     "test_paste_html_with_struck_text",
     "test_paste_while_a_dialog_is_open",
     "test_width_of_a_phone",
@@ -421,6 +422,23 @@ def test_paste_html_without_merged_cells(page: Page) -> None:
     page.run(PASTE, "<table><tr><td>9</td></tr></table>", inputs.CELLS)
     page.until(lambda: page.all("#table-dialog"), "the preview")
     assert page.at("#delimiter").get_property("value") == "\t"
+
+
+@pytest.mark.parametrize("is_in_dialog", [False, True])
+def test_paste_of_a_text_program(page: Page, is_in_dialog: bool) -> None:
+    # Catches: a table of Writer or Word, whose text has a line for each cell, that is refused though its HTML has rows.
+    rows = [["Code", "Votes", "Chair"], ["AAA", "40", "1"], ["BBB", "5663<sup>2</sup>", "2"], ["CCC", "8", "2"]]
+    cells = ["".join(f"<td><p>{it}</p></td>" for it in row) for row in rows]
+    html = f"<table>{''.join(f'<tr>{it}</tr>' for it in cells)}</table>"
+    if is_in_dialog:
+        page.click("#paste")
+        page.at("#paste-text").click()
+    page.run(PASTE, html, "\n".join(it for row in rows for it in row))
+    page.until(lambda: page.all("#table-dialog"), "the preview")
+    compared = [row.split("\n")[0] for row in page.texts("#table-compared tbody tr")]
+    assert len(compared) >= 5 and "All votes 5,711" in compared
+    take(page)
+    assert records(page)[:3] == ["AAA,40", "BBB,5663", "CCC,8"]
 
 
 def check_struck(page: Page, name: str) -> None:

@@ -55,12 +55,21 @@ def cells_of(row: str) -> list[str]:
 
 
 def head_of(row: str) -> list[str]:
-    """The cells of the row of groups: each as often as it spans columns."""
+    """The cells of a row of the heading: each as often as it spans columns."""
     cells: list[str] = []
     for cell in re.split(r"(?<!\\)&", row):
         group = re.fullmatch(r" *\\multicolumn\{(\d+)\}\{c\}\{(.*)\} *", cell)
         cells += [text_of(group[2])] * int(group[1]) if group else [text_of(cell)]
     return cells
+
+
+def rows_in(text: str) -> list[str]:
+    return [it for it in RULES.sub("", text).split(" \\\\\n") if it]
+
+
+def stacked(part: str) -> list[str]:
+    """The heads whose lines stand above one another in some rows."""
+    return [" ".join(filter(None, lines)) for lines in zip(*map(head_of, rows_in(part)), strict=True)]
 
 
 def check_braces(text: str) -> None:
@@ -74,20 +83,23 @@ def check_braces(text: str) -> None:
 
 def read(text: str) -> Table:
     """The table of a file."""
-    assert text.endswith("\\end{tabular}\n") and "\r" not in text
+    assert re.search(r"\\end\{tabular\}\n(\}\n)?$", text) and "\r" not in text
     lines = text.splitlines(keepends=True)
     comments = [it[2:].rstrip("\n") for it in lines if it.startswith("% ")]
     body = "".join(lines[len(comments) :])
     assert not re.search(r"(?<!\\)%", body), "a comment inside of the table"
     check_braces(body)
     body = body.removeprefix("\\providecommand{\\righttoleft}[1]{#1}\n")
+    sized = re.fullmatch(r"\{\\[a-z]+\\setlength\{\\tabcolsep\}\{[0-9]pt\}\\relax\n(.*)\}\n", body, re.DOTALL)
+    body = sized[1] if sized else body
     begun = re.match(r"\\begin\{tabular\}\{rl\*\{(\d+)\}\{r\}\}\n", body)
     assert begun, body[:80]
     columns = "rl" + "r" * int(begun[1])
     body = body[begun.end() :].removesuffix("\\end{tabular}\n")
     rules = RULES.findall(body)
-    groups, own, *rows, sums = [it for it in RULES.sub("", body).split(" \\\\\n") if it]
-    heads = [head_of(groups), cells_of(own)]
+    heading, body = body.split("\\midrule\n", 1)
+    heads = [stacked(part) for part in re.split(r"(?:\\cmidrule\(lr\)\{\d+-\d+\})+\n", heading)]
+    *rows, sums = rows_in(body)
     table = Table(comments, columns, rules, heads, [cells_of(it) for it in rows], cells_of(sums))
     assert {len(it) for it in [*table.heads, *table.rows, table.sums]} == {len(columns)}, "rows of other lengths"
     return table

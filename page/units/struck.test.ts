@@ -1,7 +1,7 @@
 /** What is struck out in a web page, before a browser makes a document of it. */
 import assert from "node:assert/strict";
 import { test } from "node:test";
-import { bare, saysMore } from "../src/tables/html";
+import { bare, hasTable } from "../src/tables/html";
 
 test("tags of what is struck out are left, each with its end", () => {
   // Catches: a part that is read though it is struck out, and an end that ends another element's part.
@@ -26,12 +26,20 @@ test("classes that styles strike out", () => {
   assert.equal(bare(`${styles}<td class='b'>A`), "<td data-struck class='b'>A");
 });
 
-test("a paste as HTML is read where it says more than its text", () => {
-  // Catches: a text that is read in place of the HTML that says what is struck out.
-  for (const it of ["<s>", "<DEL>", "<strike>", '<i style="text-decoration-line:line-through">']) {
-    assert.ok(saysMore(`<table><td>${it}A</table>`), it);
-  }
-  assert.ok(saysMore('<table><td rowspan="2">A</table>'));
-  assert.ok(!saysMore("<table><td><span>A</span><small>B</small></table>"));
-  assert.ok(!saysMore("<s>A</s>"));
+test("what is raised or lowered is a mark, whatever raises it", () => {
+  // Catches: a footnote's number that becomes a part of the number before it.
+  const raised = ["<sup>2</sup>", "<sub>2</sub>", '<span style="font-size:8pt; vertical-align: super">2</span>',
+    '<span style="vertical-align:30%">2</span>', '<span style="mso-text-raise:6.0pt">2</span>',
+    "<sup><a>[2]</a></sup>", "<sup><b>2</b></sup>", "<sup><p>2</p></sup>", "<sup>2<br></sup>"];
+  for (const it of raised) assert.match(bare(`<td>5663${it}</td>`), /^<td>5663²(<br>)?<\/td>$/, it);
+  assert.equal(bare("<td>5663<sup>2</td><td>7</td>"), "<td>5663²</td><td>7</td>");
+  assert.equal(bare("<style>.f { vertical-align: super }</style><td>5663<i class=f>2</i></td>"), "<td>5663²</td>");
+  assert.equal(bare('<td style="vertical-align: super">5663</td>'), "<td>5663</td>");
+  assert.equal(bare('<td>56<span style="vertical-align: baseline">63</span></td>'), "<td>5663</td>");
+});
+
+test("a table on the clipboard", () => {
+  // Catches: a table of a document whose text is read in its place.
+  assert.ok(hasTable('<meta charset="utf-8"><TABLE border=1><tr><td><p>A</p></td></tr></TABLE>'));
+  assert.ok(!hasTable("<p>A</p><tableau>"));
 });

@@ -73,6 +73,44 @@ def test_corpus(case: Case) -> None:
     assert case.is_clean, "the page asks about it"
 
 
+def words(kind: str) -> list[str]:
+    """The cells of a kind in the page's table of words."""
+    text = (CASES.parent / "words.txt").read_text()
+    return [it.split("\t")[1] for it in text.split("\n") if it.startswith(f"{kind}\t")]
+
+
+@pytest.mark.parametrize("header", ["name,votes,chair,chair_name", "code,name,votes,chair,chair_name,suspended"])
+def test_words(header: str) -> None:
+    # Catches: a missing value or a spreadsheet's error that is a chair's or a member's name, in a saved table, too.
+    def table(name: str, chair_name: str) -> str:
+        row = {"code": "AAA", "name": f'"{name}"', "votes": "9", "chair": "1", "chair_name": f'"{chair_name}"'}
+        return f"{header}\n{','.join(row.get(it, 'false') for it in header.split(','))}\n"
+
+    assert len(words("missing")) > 10 and len(words("error")) > 10
+    for kind, said in (("missing", "stands for a missing value"), ("error", "is a spreadsheet's error")):
+        for cell in words(kind):
+            assert any(said in it for it in said_of(table("Alpha", cell))), cell
+            assert any(said in it for it in said_of(table(cell, "Hills"))), cell
+    for cell in words("kept"):
+        found = read_table(table("Alpha", cell).encode())
+        assert found.names == {1: cell}
+
+
+@pytest.mark.parametrize("true, false", [("true", "false"), ("TRUE", "FALSE"), ("True", "False"), ("WAHR", "FALSCH")])
+def test_suspensions(true: str, false: str) -> None:
+    # Catches: board.html's table saved again by a spreadsheet or by pandas, which write true and false otherwise.
+    header = "code,name,votes,chair,chair_name,suspended"
+    found = read_table(f"{header}\nAAA,Alpha,9,1,,{true}\nBBB,Beta,8,2,,{false}\n".encode())
+    assert [it.suspended for it in found.members] == [True, False]
+
+
+@pytest.mark.parametrize("start, what", [(b"PK\x03\x04", "a workbook"), (b"%PDF-1.4", "a PDF")])
+def test_files_that_are_no_texts(start: bytes, what: str) -> None:
+    # Catches: a workbook for which another encoding is advised.
+    with pytest.raises(BadTable, match=f"row 1: this is {what}"):
+        read_table(start + b"\x81\x00")
+
+
 def test_what_a_table_says_besides() -> None:
     # Catches: a suspension that is a part of a name, a group among members, and a sum of others without a chair.
     suspended = said_of("code,name,votes,chair\nAAA,Alpha (voting rights suspended),9,1\n")

@@ -79,6 +79,9 @@ chair_names_of <- function(names, seats, refused) {
 
 suspensions_of <- function(suspended, refused) {
   place <- function(at) in_row(at, "suspended is")
+  # read.csv leaves true and false as text, as board.html writes them.
+  words <- if (is.factor(suspended)) as.character(suspended) else suspended
+  if (is.character(words) && all(toupper(words) %in% c("TRUE", "FALSE", NA))) suspended <- as.logical(toupper(words))
   if (!is.logical(suspended)) wrong_type(place(1), suspended[1], ALLOWED[["suspended"]])
   at <- first(is.na(suspended))
   if (!is.null(at)) refuse(refused, place(at), " NA: ", ALLOWED[["suspended"]], row = at)

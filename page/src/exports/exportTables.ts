@@ -7,6 +7,7 @@ import { textFile } from "./exportFile";
 import { fractionText, rounded } from "../study/fractions";
 import { firstLines, provenanceOf, type Source } from "../study/provenance";
 import { columnSources, registers } from "./registers";
+import type { View } from "../study/study";
 import { texTable } from "./tex";
 import { KIND_WORDS } from "../views/chairTable";
 import { workbookOf, type Sheet, type Value } from "./workbook";
@@ -71,8 +72,9 @@ export async function workbookFile(app: App): Promise<Blob> {
   const { all, sources } = registers(app, shown);
   const table = tableOf(all);
   const numbers = table.map((row) => row.map((cell, at) => valueIn(cell, table[0]?.[at])));
+  const cells = withVetoes(chairCells(columnsOf(app, shown), app.view));
   const sheets: Sheet[] = [
-    { name: "Shown", rows: shownRows(withVetoes(chairCells(columnsOf(app, shown), app.view))), widths: [8, 34, 18] },
+    { name: "Shown", rows: shownRows(cells, app.view), widths: [8, 34, 18] },
     { name: "Table", rows: numbers, widths: WIDTHS },
     { name: "Fractions", rows: fractionRows(table), widths: [14, 14, 14, 10, 8, 30, 34] },
     { name: "Source", rows: await sourceRows(app, shown, sources), widths: [24, 110] },
@@ -108,9 +110,22 @@ export async function shownText(app: App): Promise<string> {
   return [head, ...rows, ["", "All chairs", ...sums.map(written)]].map((it) => `${it.join("\t")}\n`).join("");
 }
 
+/** A cell's number in the unit of its head, with as many places as are shown. */
+function shownValue(cell: Cell | null, view: View): Value {
+  if (cell?.isText) return cell.decimal;
+  if (!cell?.value) return null;
+  const { value, decimal, unit } = cell;
+  const places = /\.([0-9]+)( %)?$/.exec(decimal)?.[1]?.length ?? 0;
+  const isPercent = decimal.endsWith(" %");
+  const digits = places ? `0.${"0".repeat(places)}` : isPercent ? "0" : "#,##0";
+  const isPoints = unit !== "" && !view.fractions;
+  const own = isPoints ? { ...value, numerator: 100n * value.numerator } : value;
+  return { number: Number(rounded(own, PLACES)), format: `${digits}${isPercent ? "%" : ""}` };
+}
+
 /** That table as numbers for a sheet of a workbook. */
-function shownRows({ heads, lines, sums }: ChairTable): Value[][] {
-  const value = (it: Cell | null) => (it?.isText ? it.decimal : it?.value ? Number(rounded(it.value, PLACES)) : null);
+function shownRows({ heads, lines, sums }: ChairTable, view: View): Value[][] {
+  const value = (it: Cell | null) => shownValue(it, view);
   const rows = lines.map(({ line, cells }): Value[] => [line.chair, line.name, ...cells.map(value)]);
   const all: Value[] = [null, "All chairs", ...sums.map(value)];
   return [["Chair", "Name", ...heads.map((it) => it.words)], ...rows, all];

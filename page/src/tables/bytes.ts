@@ -26,6 +26,24 @@ const KINDS: readonly (readonly [string, string])[] = [
   ["PAR1", "This is a Parquet file, which this page doesn't read. Save the table as CSV."],
 ];
 
+/** The first letters of texts that aren't tables, and what they are. */
+const TEXT_KINDS: readonly (readonly [RegExp, string])[] = [
+  [/^<\?xml[^>]*>\s*(<!--[^]{0,2000}?-->\s*)?<office:document/,
+    "This is an OpenDocument file (.fods, .fodt), which this page doesn't read. Save it as .xlsx or CSV."],
+  [/^<\?xml[^>]*>\s*<\?mso-application/,
+    "This is a spreadsheet of Excel 2003 (.xml), which this page doesn't read. Save it as .xlsx."],
+  [/^<\?xml|^<[a-z][\w:.-]*[^>]*\sxmlns/i, `This is XML, which this page doesn't read. ${COPY}`],
+  [/^TABLE\r?\n0,1\r?\n/, "This is a file of the format DIF, which this page doesn't read. Save it as .xlsx or CSV."],
+  [/^ID;P/, "This is a file of the format SYLK (.slk), which this page doesn't read. Save it as .xlsx or CSV."],
+  [/^[[{]\s*["[{\]}]/, "This is JSON, and no study as this page saves it. Save its table as CSV."],
+];
+
+/** Refuses a text that is no table by its first letters. */
+export function checkTextKind(text: string): void {
+  const kind = TEXT_KINDS.find(([start]) => start.test(text.trimStart()));
+  if (kind) throw new Unreadable(kind[1]);
+}
+
 /** Whether bytes are a zip file, as .xlsx is. */
 export function isZip(bytes: Uint8Array): boolean {
   return bytes[0] === 0x50 && bytes[1] === 0x4b && (bytes[2] === 3 || bytes[2] === 5);

@@ -302,7 +302,9 @@ export function seated(
   const alternates = alternatesOf(lines, proofs, head, questions);
   const places = placesOf(lines, blocks, new Set(alternates));
   const beyond = new Set(rowsBeyond(places, blocks));
-  const isBlank = ({ why, above, line }: Place) => why === "blank" && above !== "" && !beyond.has(line.row);
+  // Below a word for no chair, a blank is no chair either way.
+  const isBlank = ({ why, above, line }: Place) =>
+    why === "blank" && above !== "" && !isNone(above) && !beyond.has(line.row);
   const blanks = places.filter(isBlank).map(({ line }) => line);
   const isAsked = mayBeMerged(lines, blanks);
   const fills = isAsked && askMerged(questions, blanks);

@@ -123,9 +123,9 @@ function isChairNumbers({ filled }: Column): boolean {
   return filled.length > 0 && filled.every(isChairNumber);
 }
 
-/** Whether a column numbers the rows: 1, 2, 3 and on. */
+/** Whether a column numbers the rows from 1, or from 0 as an index of pandas. */
 function isCount({ cells }: Column): boolean {
-  return cells.length > 2 && cells.every((cell, at) => cell === String(at + 1));
+  return cells.length > 2 && [0, 1].some((first) => cells.every((cell, at) => cell === String(at + first)));
 }
 
 function isWhole({ filled, wholes }: Column): boolean {

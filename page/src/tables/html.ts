@@ -1,7 +1,8 @@
 /** Tables of web pages, and of the HTML that spreadsheets put on the clipboard, as sheets. */
+import { raised } from "./cells";
 import { filledNotice, gridOf, MOST_ROWS, type SpanningCell } from "./grid";
 import { checkLetters, checkTags, MOST_TABLE_TAGS } from "./limits";
-import { NOTHING, strikes, StruckTags, struckIn, textOfRuns, type Run, type Text } from "./struck";
+import { NOTHING, strikes, struckIn, StyledTags, textOfRuns, type Run, type Text } from "./struck";
 import { sheetOfCells } from "./text";
 import { Unreadable, type NamedSheet } from "./types";
 
@@ -11,13 +12,12 @@ export type Parse = (text: string, type: "text/html") => Document;
 /** Tables in one another at most. */
 const MOST_DEEP = 20;
 
-const RAISED = "\u2070\u00b9\u00b2\u00b3\u2074\u2075\u2076\u2077\u2078\u2079";
-
-/** HTML with raised digits as such, so that a footnote's number doesn't become part of a number; entities stay. */
-function raised(html: string): string {
-  const digits = (text: string) => text.replace(/&[^;\s]{1,9};|[0-9]/g, (it) => RAISED[Number(it)] ?? it);
-  const whole = /<sup>([^<]*(?:<\/?s>[^<]*)*)<\/sup>/g;
-  return html.replace(whole, (_, text) => digits(String(text))).replace(/<\/?sup>/g, "");
+/** HTML with what is raised as marks, so that a footnote's number doesn't become part of a number; entities stay. */
+function withMarks(html: string): string {
+  const marks = (text: string) =>
+    text.replace(/<[^>]*>|&[^;\s]{1,9};|[^<&]+|[<&]/g, (it) => (/^[<&]/.test(it) ? it : raised(it)));
+  const ended = /<sup>([^]*?)(?:<\/sup>|(?=<\/?(?:table|caption|t(?:head|body|foot|r|d|h))\b))/gi;
+  return html.replace(ended, (_, text) => marks(String(text))).replace(/<\/?sup>/g, "");
 }
 
 /** The mark of an element of a table that is struck out, and all elements that are. */
@@ -78,26 +78,24 @@ function without(html: string, start: RegExp, endOf: (start: string) => string):
 }
 
 /** A tag, if a table needs it: without styles and scripts, which the page's policy forbids. */
-function bareTag(tag: string, name: string, struck: StruckTags): string {
+function bareTag(tag: string, name: string, styled: StyledTags): string {
   const isEnd = tag.startsWith("</");
   if (/^(table|caption|t(head|body|foot|r|d|h)|br)$/i.test(name)) {
-    if (!/^br$/i.test(name)) struck.cut();
+    if (!/^br$/i.test(name)) styled.cut();
     const own = tag.replace(/\s(style|on[a-z]+)\s*=\s*("[^"]*"|'[^']*')/gi, "");
-    return !isEnd && struck.isStruck(tag, name) ? own.replace(/^<[a-z]+/i, `$& ${STRUCK}`) : own;
+    return !isEnd && styled.isStruck(tag, name) ? own.replace(/^<[a-z]+/i, `$& ${STRUCK}`) : own;
   }
-  const around = struck.around(tag, name);
-  if (/^(p|div|li)$/i.test(name)) return isEnd ? `${around}<br>` : around;
-  if (/^sup$/i.test(name)) return isEnd ? `${around}</sup>` : `<sup>${around}`;
-  return around;
+  const around = styled.around(tag, name);
+  return isEnd && /^(p|div|li)$/i.test(name) ? `${around}<br>` : around;
 }
 
 /** HTML without all that no table needs. Each letter is looked at a few times at most. */
 export function bare(html: string): string {
   const told = without(html, /<!--/g, () => "-->");
   const plain = without(told, /<(style|script)\b/gi, (start) => `</${start.slice(1)}\\s*>`);
-  const struck = new StruckTags(html);
-  const left = raised(plain.replace(/<\/?([a-z][a-z0-9:-]*)\b(?:[^"'<>]|"[^"<]*"|'[^'<]*')*>/gi,
-    (tag: string, name: string) => bareTag(tag, name, struck)));
+  const styled = new StyledTags(html);
+  const left = withMarks(plain.replace(/<\/?([a-z][a-z0-9:-]*)\b(?:[^"'<>]|"[^"<]*"|'[^'<]*')*>/gi,
+    (tag: string, name: string) => bareTag(tag, name, styled)));
   checkTables(left);
   return left;
 }
@@ -122,8 +120,7 @@ export function sheetsOfHtml(html: string, parse: Parse, notices: readonly strin
   return large;
 }
 
-/** Whether HTML has a table of which its text alone doesn't say all: cells over several rows, or struck out. */
-export function saysMore(html: string): boolean {
-  const isMore = /\browspan\s*=\s*["']?([2-9]|[1-9][0-9])|<(s|del|strike)\b|\bline-through\b/i;
-  return /<table\b/i.test(html) && isMore.test(html);
+/** Whether HTML has a table. */
+export function hasTable(html: string): boolean {
+  return /<table\b/i.test(html);
 }

@@ -4,10 +4,11 @@ import { chairNumber, chairNumbers, isName, keyOf } from "./chairs";
 import { votesReason, wholeOf, type Thousands } from "./numbers";
 import type { Line } from "./rows";
 import type { CellFault, Meaning, TableMember } from "./types";
+import * as words from "./words";
 
 /** What says in the column of suspensions that a member is suspended, and that it isn't. */
-export const TRUE = /^(true|yes|y|1|x|suspended|vrai|wahr|oui|ja)$/i;
-const FALSE = /^(false|no|n|0|-|faux|falsch|non|nein|)$/i;
+export const TRUE = new RegExp(`^(${words.TRUE.join("|")}|yes|y|1|x|suspended|oui|ja)$`, "iu");
+const FALSE = new RegExp(`^(${words.FALSE.join("|")}|no|n|0|-|non|nein|)$`, "iu");
 
 /** What the rows of members give. */
 export interface Members {

@@ -1,4 +1,5 @@
 /** Whole numbers as people print them, and the footnote marks behind numbers and names. */
+import { RAISED, valueErrorWords } from "./cells";
 import { MOST_LETTERS } from "./limits";
 
 /** The mark between thousands: a comma or a point. Apostrophes and blanks always may be one. */
@@ -11,11 +12,11 @@ const PERCENT = /^[+-]?[0-9]+([.,][0-9]+)?\s*%$/;
 /** Any digit of Unicode other than 0 to 9, except raised ones. */
 const OTHER_DIGIT = /(?![0-9])\p{Nd}/u;
 
-const MARKS_BEFORE = /^[*†‡§]+\s*/;
+const MARKS_BEFORE = new RegExp(`^[*†‡§${RAISED}]+\\s*`, "u");
 /** Marks such as `*`, a raised 1, ` 1/`, ` a/`, ` 1)`, `(1)` and `[1]`. A `1/` needs a blank before it, or a letter. */
 const MARKS_AFTER = [
   /[*†‡§]+$/,
-  /[\u00b9\u00b2\u00b3\u2070\u2074-\u2079]+[/⁄)]?$/,
+  new RegExp(`[${RAISED}]+[/⁄)]?$`, "u"),
   /\s[0-9]{1,2}(,\s?[0-9]{1,2})*\/$/,
   /\s[a-z]\/$/i,
   /\([0-9]{1,2}\)$/,
@@ -70,17 +71,18 @@ function plainMark(mark: string): string {
   return mark.normalize("NFKC").replace(/[\s()[\]/.\u2044]/g, "").toLowerCase();
 }
 
+const MARK = new RegExp(`[*†‡§]+|[${RAISED}]+|[0-9]{1,2}|\\b[a-z]\\b`, "giu");
+
 /** The footnote marks around a cell. */
 export function marksOf(cell: string): string[] {
   const bare = withoutMarks(cell);
   const at = cell.indexOf(bare);
   const around = `${cell.slice(0, at)} ${cell.slice(at + bare.length)}`;
-  return (around.match(/[*†‡§]+|[\u00b9\u00b2\u00b3\u2070\u2074-\u2079]+|[0-9]{1,2}|\b[a-z]\b/gi) ?? []).map(plainMark);
+  return (around.match(MARK) ?? []).map(plainMark);
 }
 
 const NOTE_MARK = new RegExp(
-  "^([*†‡§]+|[\\u00b9\\u00b2\\u00b3\\u2070\\u2074-\\u2079]+|[(\\[]?[0-9]{1,2}[)\\]/.]?|[(\\[]?[a-z][)\\]/])" +
-    "\\s*(?=[\\p{L}\"'(])",
+  `^([*†‡§]+|[${RAISED}]+|[(\\[]?[0-9]{1,2}[)\\]/.]?|[(\\[]?[a-z][)\\]/])\\s*(?=[\\p{L}"'(])`,
   "iu",
 );
 
@@ -101,8 +103,8 @@ export function wholeOf(cell: string, thousands: Thousands): Whole | null {
   const found = PATTERNS[thousands].exec(cell);
   if (!found) return null;
   const [, blank, mark, zeros] = found;
-  // Behind thousands with points the decimal mark is a comma; else it is a point.
-  if (zeros && (zeros[0] === ",") !== (mark === ".")) return null;
+  // The mark between thousands isn't that of the decimals. Where there is none, either may be.
+  if (zeros && zeros[0] === mark) return null;
   const digits = (zeros ? cell.slice(0, -zeros.length) : cell).replace(/[^0-9]/g, "");
   return { value: Number(digits), hasMarks: Boolean(blank ?? mark), hasZeros: Boolean(zeros) };
 }
@@ -138,19 +140,27 @@ export function isPercent(cell: string): boolean {
   return PERCENT.test(withoutMarks(cell));
 }
 
-/** The mark between thousands that some cell proves, by two marks of a kind or by a decimal behind one; else null. */
+/** The mark between thousands that some cell proves, by two marks of a kind, by a decimal behind one, or as the mark of
+ * decimals elsewhere in the table; else null. */
 export function provenThousands(cells: readonly string[]): Thousands | null {
   const proves = (mark: string, other: string) => {
     const proof = new RegExp(`^[0-9]{1,3}(\\${mark}[0-9]{3})+(\\${mark}[0-9]{3}|\\${other}00?)$`);
     return cells.some((cell) => proof.test(cell));
   };
+  const isDecimal = (mark: string) => {
+    const decimal = new RegExp(`^[0-9]{1,3}\\${mark}([0-9]{1,2}|[0-9]{4,15})\\s*%?$`);
+    return cells.some((cell) => decimal.test(cell) && !/[.,]00?$/.test(cell));
+  };
   const [comma, point] = [proves(",", "."), proves(".", ",")];
-  return comma === point ? null : comma ? "," : ".";
+  if (comma !== point) return comma ? "," : ".";
+  const [commas, points] = [isDecimal(","), isDecimal(".")];
+  return comma || commas === points ? null : commas ? "." : ",";
 }
 
 /** Why a cell isn't a number of votes, in words. */
 export function votesReason(cell: string): string {
   if (cell === "") return "an empty cell";
+  if (valueErrorWords(cell)) return valueErrorWords(cell);
   if (/^[+\-\u2212\u2013]/.test(cell)) return "a sign";
   if (/^\(.*\)$/.test(cell)) return "a number in parentheses, which may mean a negative one";
   if (OTHER_DIGIT.test(cell)) return "digits other than 0 to 9";

@@ -3,7 +3,7 @@ import { grouped } from "../study/fractions";
 import { columnName } from "./columns";
 import { percentOf, SUSPENSION, wholeOf, wholesIn } from "./numbers";
 import type { Questions } from "./questions";
-import { rowsWords, type Line } from "./rows";
+import { lineWords, rowsWords, type Line } from "./rows";
 import { OUTSIDE, sumOf } from "./totals";
 import type { Layout, Sheet, TableMember } from "./types";
 
@@ -49,8 +49,8 @@ function fitted(all: readonly Clue[]): Fitted | null {
   const best = clues.map(fits).reduce((most, next) => (next.length > most.length ? next : most), []);
   if (best.length < LEAST_CLUES || best.length < LEAST_PART * clues.length) return null;
   const [low, high] = [Math.max(...best.map((it) => it.low)), Math.min(...best.map((it) => it.high))];
-  const others = clues.filter((it) => !best.includes(it)).map(({ row }) => row).sort((one, other) => one - other);
-  return { low, high, many: best.length, others };
+  const others = all.filter((it) => it.low > high || it.high < low).map(({ row }) => row);
+  return { low, high, many: best.length, others: others.sort((one, other) => one - other) };
 }
 
 /** What a column of per cents says of the total: they are of the members' votes, or of the chairs' printed totals. */
@@ -132,6 +132,47 @@ function askTooMany(questions: Questions, about: string, more: number): void {
   });
 }
 
+/** A column of per cents: how many of them the votes give, and the rows of the others. */
+export interface Percents {
+  readonly column: number;
+  readonly many: number;
+  readonly others: readonly number[];
+}
+
+/** The columns of per cents of which most fit one total. */
+export function percentsOf(sheet: Sheet, layout: Layout, lines: readonly Line[]): Percents[] {
+  return layout.percents.flatMap((column) => {
+    const found = columnSays(sheet, layout, lines, column, 1);
+    return found ? [{ column, many: found.many, others: found.others }] : [];
+  });
+}
+
+/** More rows than this aren't listed one by one. */
+const MOST_ROWS = 12;
+
+/** Asks about per cents that the votes of their rows don't give, where those of the others do. */
+function askWrong(sheet: Sheet, layout: Layout, lines: readonly Line[], sum: number, questions: Questions): void {
+  const found = percentsOf(sheet, layout, lines).filter(({ others }) => others.length > 0);
+  const [first] = found;
+  if (!first) return;
+  const { column, others } = first;
+  const cell = (row: number) => sheet.rows[row - 1]?.[column] ?? "";
+  const own = lines.filter(({ row }) => others.includes(row));
+  const shown = own.slice(0, MOST_ROWS).map((it) =>
+    `${lineWords(it)}: ${((100 * (it.votes ?? 0)) / sum).toFixed(2)} by its votes, '${cell(it.row)}' printed`);
+  const words = `${shown.join("; ")}${own.length > MOST_ROWS ? `; and ${own.length - MOST_ROWS} more` : ""}`;
+  questions.ask({
+    id: "percents",
+    kind: "percents",
+    words: `Wrong votes? The votes of ${rowsWords(others)} don't give the per cents of column ${
+      columnName(sheet, layout, column)}, and those of the other rows do. ${words}.`,
+    options: [
+      { key: "yes", words: "Take the votes", choice: `Per cents that the votes don't give were passed over. ${words}` },
+      { key: "no", words: "Take nothing: I correct the table first", choice: "" },
+    ],
+  });
+}
+
 /** Asks about the votes that the columns of per cents show outside the table. Returns how many are to be added. */
 function askPercents(sheet: Sheet, layout: Layout, lines: readonly Line[], sum: number, questions: Questions): number {
   const said = layout.percents.flatMap((column) => {
@@ -140,7 +181,10 @@ function askPercents(sheet: Sheet, layout: Layout, lines: readonly Line[], sum: 
   });
   const less = said.find(({ low }) => low > sum);
   const most = less ?? said[0];
-  if (!most) return 0;
+  if (!most) {
+    askWrong(sheet, layout, lines, sum, questions);
+    return 0;
+  }
   const exact = publishedIn(sheet, layout, lines, most);
   const { low, high } = exact === null ? most : { low: exact, high: exact };
   const rest = most.others.length ? `, without those of ${rowsWords(most.others)}` : "";

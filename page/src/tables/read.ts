@@ -7,7 +7,10 @@ import { seated, type AlternateHead, type Seated } from "./chairs";
 import { freeCodes, madeCodes, memberKey } from "./codes";
 import { membersOf, type Members } from "./members";
 import { wholeOf } from "./numbers";
+import { errorWords, valueErrorWords } from "./cells";
+import { askWhole, comparedOf } from "./compared";
 import { withChairs, withDirectors, withOwnRows } from "./directors";
+import { withoutPieces } from "./pieces";
 import { Questions } from "./questions";
 import { outsideOf, outsideWords } from "./outside";
 import { lineWords, linesOf, rowsWords, type Line, type Role } from "./rows";
@@ -17,7 +20,8 @@ import { askSums, withSums } from "./sums";
 import { askSuspensions } from "./suspensions";
 import { withHeadings, withTotals } from "./totals";
 import {
-  MEANING_WORDS, type Answers, type CellFault, type Layout, type ReadTable, type Sheet, type Struck, type TableMember,
+  MEANING_WORDS, MEANINGS, type Answers, type CellFault, type Layout, type ReadTable, type Sheet, type Struck,
+  type TableMember,
 } from "./types";
 
 /** What a row is in words, if it isn't a member. */
@@ -62,7 +66,7 @@ function rowFaults(sheet: Sheet, { header, columns }: Layout, lines: readonly Li
   const mayBeCut = header > 0 && /^[;,]$/.test(sheet.delimiter);
   const width = mayBeCut ? cellsOf(header).length : sheet.width;
   const wide = lines.filter(({ row }) => cellsOf(row).slice(width).some((cell) => cell !== ""));
-  const nameless = columns.code < 0 ? lines.filter(({ cells }) => cells.name === "") : [];
+  const nameless = columns.code < 0 ? lines.filter(({ cells }) => !/\p{L}/u.test(cells.name)) : [];
   return [
     ...wide.map(({ row }): CellFault => {
       return { row, meaning: "votes", reason: `${cellsOf(row).length} cells under a header of ${width}` };
@@ -71,6 +75,16 @@ function rowFaults(sheet: Sheet, { header, columns }: Layout, lines: readonly Li
       return { row, meaning: "name", reason: "there is no name to make a code from" };
     }),
   ];
+}
+
+/** Cells with a spreadsheet's error, in whatever row they are read. */
+function errorFaults({ columns }: Layout, lines: readonly Line[]): CellFault[] {
+  const used = MEANINGS.filter((it) => columns[it] >= 0 && it !== "suspended");
+  return lines.filter(({ role }) => role !== "header" && role !== "note").flatMap(({ row, raw }) =>
+    used.flatMap((meaning): CellFault[] => {
+      const reason = /name|^chair$/i.test(meaning) ? errorWords(raw[meaning]) : valueErrorWords(raw[meaning]);
+      return reason ? [{ row, meaning, reason }] : [];
+    }));
 }
 
 /** Asks about names that stand twice. Returns the rows that are left out. */
@@ -224,7 +238,7 @@ function withoutStruck({ struck = [] }: Sheet, lines: readonly Line[], questions
 
 /** Finds totals, headings and chairs, and asks about them. */
 function arranged(sheet: Sheet, layout: Layout, answers: Answers, questions: Questions): Arranged {
-  const given = withoutStruck(sheet, linesOf(sheet, layout, answers.leftOut), questions);
+  const given = withoutPieces(withoutStruck(sheet, linesOf(sheet, layout, answers.leftOut), questions), questions);
   const { lines: directed, head } = withDirectors(given, alternateHead(sheet, layout), questions);
   const all = withHeadings(withoutAggregates(withSums(directed, questions), questions), questions);
   const { lines: summed, blocks, notices } = withTotals(all, questions);
@@ -236,6 +250,7 @@ function arranged(sheet: Sheet, layout: Layout, answers: Answers, questions: Que
   if (!questions.hasOpen("alternate", "headings", "single")) askSums(found.lines, found.seats, questions);
   const suspended = askSuspensions(sheet, layout, found.lines, answers.leftOut, questions);
   const outside = questions.hasOpen("total", "headings") ? [] : outsideOf(sheet, layout, found.lines, questions);
+  if (!questions.hasOpen("alternate", "headings", "single", "total", "aggregate")) askWhole(sheet, found, questions);
   const said = [...roleNotices(found.lines), ...notices, ...result.notices, ...markNotice(found.lines)];
   return { lines: withSuspensions(found.lines, suspended), seats: found.seats, said, outside };
 }
@@ -264,7 +279,7 @@ export function readTable(sheet: Sheet, given: Layout, answers: Answers): ReadTa
   const missing = questions.areAnswered ? missingColumn(sheet, layout) : null;
   if (missing || !questions.areAnswered) {
     const faults = missing ? [missing] : [];
-    return { base: null, faults, questions: questions.all, notices: sheet.notices, roles: new Map() };
+    return { base: null, faults, questions: questions.all, notices: sheet.notices, roles: new Map(), compared: [] };
   }
   const strict = isStrict(sheet);
   const rows = strict ? strictly(sheet, layout, answers) : arranged(sheet, layout, answers, questions);
@@ -275,8 +290,10 @@ export function readTable(sheet: Sheet, given: Layout, answers: Answers): ReadTa
   const used = members.members.map(({ code }) => code);
   const outside = rows.outside.map((it): TableMember => ({ ...it, code: freeCodes(used)[0] ?? "" }));
   const none: CellFault = { row: 0, meaning: "code", reason: "there is no member in the table" };
-  const faults = [...rowFaults(sheet, layout, coded), ...members.faults, ...(own.length ? [] : [none])]
-    .sort((one, other) => one.row - other.row);
+  const errors = errorFaults(layout, rows.lines);
+  const isOther = ({ row, meaning }: CellFault) => !errors.some((it) => it.row === row && it.meaning === meaning);
+  const others = [...rowFaults(sheet, layout, coded), ...members.faults, ...(own.length ? [] : [none])].filter(isOther);
+  const faults = [...errors, ...others].sort((one, other) => one.row - other.row);
   const notices = [...sheetNotices(sheet, layout), ...conversionNotices(layout, coded, members), ...rows.said];
   const left = [...answers.leftOut].sort((one, other) => one - other).map((row) => `Row ${row} was left out`);
   const chosen = questions.all.flatMap(({ choice }) => (choice ? [choice] : []));
@@ -287,7 +304,9 @@ export function readTable(sheet: Sheet, given: Layout, answers: Answers): ReadTa
     columns: columnNames(sheet, layout),
   };
   const isWhole = !faults.length && questions.areAnswered;
-  return { base: isWhole ? base : null, faults, questions: questions.all, notices, roles: rolesOf(rows.lines, out) };
+  const roles = rolesOf(rows.lines, out);
+  const compared = isWhole ? comparedOf(sheet, layout, rows, base) : [];
+  return { base: isWhole ? base : null, faults, questions: questions.all, notices, roles, compared };
 }
 
 /** The place and the value of a fault in words. */

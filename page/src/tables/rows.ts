@@ -1,4 +1,5 @@
 /** The rows of a sheet, by what their cells mean and by what kind of row they seem to be. */
+import { RAISED } from "./cells";
 import { isNumber, SUSPENSION, wholeOf, withoutMarks } from "./numbers";
 import { MEANINGS, type Layout, type Meaning, type Sheet } from "./types";
 
@@ -39,7 +40,7 @@ const TOTAL_NAME = new RegExp(
     "|\\b(sub[- ]?)?totals?$|^all members$",
   "i",
 );
-const NOTE = /^([*†‡§]|[\u00b9\u00b2\u00b3\u2070\u2074-\u2079]|[0-9]{1,2}\/)\s*\p{L}/u;
+const NOTE = new RegExp(`^([*†‡§]|[${RAISED}]|[0-9]{1,2}/)\\s*\\p{L}`, "u");
 /** Marks of notes that could number headings, too. */
 const LAST_NOTE = /^([0-9]{1,2}\)|\([0-9]{1,2}\)|\[[0-9]{1,2}\])\s*\p{L}/u;
 const NOTE_WORDS = /^(notes?|sources?|footnotes?|as of|memorandum|memo items?|of which)\b/i;

@@ -1,6 +1,6 @@
 /** Where a table comes from: a text, a web page or a workbook; and what else a file may be. */
 import { isData } from "../study/studyData";
-import { textOfBytes } from "./bytes";
+import { checkTextKind, textOfBytes } from "./bytes";
 import { bare } from "./html";
 import { sheetOf } from "./text";
 import type { NamedSheet } from "./types";
@@ -58,5 +58,6 @@ export function contentsOf(given: Given): Contents {
   }
   if (isData(text)) return { kind: "study", json: text };
   if (isScript(text)) return { kind: "script", text };
+  checkTextKind(text);
   return { kind: "table", sheets: [{ name: "", sheet: sheetOf(text, notices) }], text, notices };
 }

@@ -1,6 +1,9 @@
 /** The strict table, which scripts and packages take: `code,name,votes,chair,chair_name,suspended`. */
 import { CHAIRS } from "../study/words";
 import type { Sheet, TableBase } from "./types";
+import { FALSE, TRUE } from "./words";
+
+const TRUTH = new RegExp(`^(${[...TRUE, ...FALSE].join("|")})$`, "iu");
 
 export const STRICT_HEADER = ["code", "name", "votes", "chair", "chair_name", "suspended"] as const;
 
@@ -20,7 +23,7 @@ export function strictTable(base: TableBase): string {
 function isStrictRow(row: readonly string[]): boolean {
   const [code = "", , votes = "", chair = "", , suspended = ""] = row;
   const isSeat = chair === "" || CHAIRS.some((number) => String(number) === chair);
-  const isPlain = /^[A-Z]{3}$/.test(code) && /^[0-9]{1,20}$/.test(votes) && /^(true|false)$/.test(suspended);
+  const isPlain = /^[A-Z]{3}$/.test(code) && /^[0-9]{1,20}$/.test(votes) && TRUTH.test(suspended);
   return row.length === STRICT_HEADER.length && isPlain && isSeat;
 }
 

@@ -1,4 +1,5 @@
-/** Text that is struck out in a cell of a workbook or a web page: it isn't read, and its row is asked about. */
+/** Text that is struck out in a cell of a workbook or a web page: it isn't read, and its row is asked about. And the
+ * tags of a web page that strike out, or lift off the line. */
 
 /** The text of a cell, what is left of it, and what is struck out of it. */
 export interface Text {
@@ -34,13 +35,28 @@ export function strikes(style: string): boolean {
   return /line-through/i.test(lines.pop() ?? "");
 }
 
-/** The classes that the styles of a web page strike out. */
-function classesOf(html: string): ReadonlySet<string> {
+/** Whether declarations of styles lift a text off the line. */
+function lifts(style: string): boolean {
+  const lines = style.split(";").filter((it) => /^\s*(vertical-align|mso-text-raise)\s*:/i.test(it));
+  return lines.some((it) => /:\s*(super|sub|-?[0-9.]*[1-9][0-9.]*\s*(px|pt|em|ex|rem|%))/i.test(it));
+}
+
+/** What a style does with a text: the element that stands for it, those that do so by themselves, and declarations. */
+interface Look {
+  readonly element: "s" | "sup";
+  readonly own: RegExp;
+  readonly isSo: (style: string) => boolean;
+}
+const STRIKES: Look = { element: "s", own: /^(s|del|strike)$/i, isSo: strikes };
+const LIFTS: Look = { element: "sup", own: /^(sup|sub)$/i, isSo: lifts };
+
+/** The classes whose styles look so. */
+function classesOf(html: string, isSo: Look["isSo"]): ReadonlySet<string> {
   const classes = new Set<string>();
   const piece = /[^{}]*[{}]/y;
   let selector = "";
   for (let [found] = piece.exec(html) ?? []; found !== undefined; [found] = piece.exec(html) ?? []) {
-    const isRule = selector !== "" && found.endsWith("}") && strikes(found.slice(0, -1));
+    const isRule = selector !== "" && found.endsWith("}") && isSo(found.slice(0, -1));
     for (const [, name = ""] of isRule ? selector.matchAll(/\.([a-z_][\w-]*)/gi) : []) classes.add(name);
     selector = found.endsWith("{") ? found : "";
   }
@@ -61,23 +77,26 @@ function attributesOf(tag: string): { classes: string; style: string } {
 /** Elements that have no end. */
 const EMPTY = /^(area|base|br|col|embed|hr|img|input|link|meta|source|track|wbr)$/i;
 
-/** Follows the tags of a web page, and knows which of them begin and end what is struck out. */
-export class StruckTags {
+/** Follows the tags of a web page, and knows which of them begin and end a look. */
+class LookTags {
+  readonly #look: Look;
   readonly #classes: ReadonlySet<string>;
-  /** By the names of open elements: the piece in which each begins that strikes out, and 0 for another one. */
+  /** By the names of open elements: the piece in which each begins that looks so, and 0 for another one. */
   readonly #open = new Map<string, number[]>();
-  /** The tags of tables cut a page into pieces. How many elements that strike out are open in the last one. */
+  /** The tags of tables cut a page into pieces. How many elements that look so are open in the last one. */
   #piece = 1;
   #many = 0;
 
-  constructor(html: string) {
-    this.#classes = classesOf(html);
+  constructor(html: string, look: Look) {
+    this.#look = look;
+    this.#classes = classesOf(html, look.isSo);
   }
 
-  /** Whether a tag strikes out what is in its element. */
-  isStruck(tag: string, name: string): boolean {
+  /** Whether a tag gives what is in its element the look. */
+  isSo(tag: string, name: string): boolean {
     const { classes, style } = attributesOf(tag);
-    return /^(s|del|strike)$/i.test(name) || strikes(style) || classes.split(/\s+/).some((it) => this.#classes.has(it));
+    const { own, isSo } = this.#look;
+    return own.test(name) || isSo(style) || classes.split(/\s+/).some((it) => this.#classes.has(it));
   }
 
   /** Begins a piece at a tag of a table. */
@@ -86,7 +105,7 @@ export class StruckTags {
     this.#many = 0;
   }
 
-  /** What stands for a tag that no table needs: `<s>`, `</s>` or nothing. In a piece no `<s>` is in another one. */
+  /** What stands for a tag that no table needs: the look's element, its end or nothing. None is in another one. */
   around(tag: string, name: string): string {
     const key = name.toLowerCase();
     const open = this.#open.get(key) ?? [];
@@ -95,14 +114,39 @@ export class StruckTags {
     if (EMPTY.test(key)) return "";
     // A paragraph ends where the next one begins.
     const before = key === "p" ? this.#end(open.pop()) : "";
-    const isOut = this.isStruck(tag, key);
-    open.push(isOut ? this.#piece : 0);
-    if (isOut) this.#many += 1;
-    return before + (isOut && this.#many === 1 ? "<s>" : "");
+    const isSo = this.isSo(tag, key);
+    open.push(isSo ? this.#piece : 0);
+    if (isSo) this.#many += 1;
+    return before + (isSo && this.#many === 1 ? `<${this.#look.element}>` : "");
   }
 
   #end(piece = 0): string {
     if (piece === this.#piece) this.#many -= 1;
-    return piece > 0 && (piece < this.#piece || this.#many === 0) ? "</s>" : "";
+    return piece > 0 && (piece < this.#piece || this.#many === 0) ? `</${this.#look.element}>` : "";
+  }
+}
+
+/** The tags of a web page that strike out, and those that lift off the line. */
+export class StyledTags {
+  readonly #struck: LookTags;
+  readonly #lifted: LookTags;
+
+  constructor(html: string) {
+    [this.#struck, this.#lifted] = [new LookTags(html, STRIKES), new LookTags(html, LIFTS)];
+  }
+
+  isStruck(tag: string, name: string): boolean {
+    return this.#struck.isSo(tag, name);
+  }
+
+  cut(): void {
+    this.#struck.cut();
+    this.#lifted.cut();
+  }
+
+  /** What stands for a tag that no table needs: `<s>`, `<sup>`, their ends or nothing. */
+  around(tag: string, name: string): string {
+    const [struck, lifted] = [this.#struck.around(tag, name), this.#lifted.around(tag, name)];
+    return tag.startsWith("</") ? lifted + struck : struck + lifted;
   }
 }

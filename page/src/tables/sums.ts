@@ -3,15 +3,15 @@ import { counted, grouped } from "../study/fractions";
 import type { Questions } from "./questions";
 import type { Line } from "./rows";
 
-/** A chair whose printed total differs from the sum of its members. */
-interface Difference {
+/** A chair's printed total, and the sum of its members. */
+interface PrintedTotal {
   readonly chair: string;
   readonly printed: number;
   readonly sum: number;
 }
 
-/** Compares the printed totals with the sums of the chairs' members. */
-function differencesOf(lines: readonly Line[], seats: ReadonlyMap<number, string>): Difference[] {
+/** The printed totals of chairs beside the sums of their members. */
+export function printedTotals(lines: readonly Line[], seats: ReadonlyMap<number, string>): PrintedTotal[] {
   const sums = new Map<string, number>();
   const printed = new Map<string, Set<number>>();
   let above = "";
@@ -27,12 +27,12 @@ function differencesOf(lines: readonly Line[], seats: ReadonlyMap<number, string
   }
   return [...printed].flatMap(([chair, values]) => {
     const sum = sums.get(chair) ?? 0;
-    return [...values].filter((value) => value !== sum).map((value) => ({ chair, printed: value, sum }));
+    return [...values].map((value) => ({ chair, printed: value, sum }));
   });
 }
 
 /** Lists the chairs whose printed totals differ, and asks whether the members' votes count. */
-function ask(found: readonly Difference[], questions: Questions): void {
+function ask(found: readonly PrintedTotal[], questions: Questions): void {
   const words = found.map(({ chair, printed, sum }) => {
     return `${chair}: ${grouped(printed)} printed, ${grouped(sum)} by its members`;
   }).join("; ");
@@ -50,7 +50,7 @@ function ask(found: readonly Difference[], questions: Questions): void {
 
 /** Asks about printed totals, where it is known which rows are of a chair. */
 export function askSums(lines: readonly Line[], seats: ReadonlyMap<number, string>, questions: Questions): void {
-  const found = differencesOf(lines, seats);
+  const found = printedTotals(lines, seats).filter(({ printed, sum }) => printed !== sum);
   if (found.length && !questions.isAsked("sums")) ask(found, questions);
 }
 

@@ -1,6 +1,7 @@
 /** Texts with tabs, semicolons or commas between cells, as sheets. */
 import { dsvFormat } from "d3-dsv";
 import { counted } from "../study/fractions";
+import { isMissing, plainCell } from "./cells";
 import { checkCells, checkColumns, checkLetters, countUpTo, MOST_LINES, MOST_TABLE_ROWS } from "./limits";
 import { splitLines } from "./lines";
 import { Unreadable, type Sheet } from "./types";
@@ -15,6 +16,16 @@ function emptied(text: string, delimiters: string): string {
   return text.replace(quoted, "$1");
 }
 
+/** A number whose thousands commas separate. */
+const GROUPED = /(^|[^0-9])[0-9]{1,3}(?:,[0-9]{3})+(?![0-9])/g;
+
+/** Whether commas may separate cells: most rows with numbers have one outside of a number, or are numbers alone. */
+function mayCommasSeparate(lines: readonly string[]): boolean {
+  const numbered = lines.filter((line) => /[0-9]/.test(line));
+  const apart = numbered.filter((line) => /^[0-9,]+$/.test(line) || line.replace(GROUPED, "$1").includes(","));
+  return 2 * apart.length >= numbered.length;
+}
+
 /** The delimiter of cells: a tab if most rows have one; else the semicolon or comma that more rows have. */
 function delimiterOf(text: string): string {
   const lines = emptied(text, "\t;,").split(/\r\n|\r|\n/).filter((line) => line.trim() !== "");
@@ -23,8 +34,14 @@ function delimiterOf(text: string): string {
   if (2 * rows("\t") > lines.length) return "\t";
   const [semicolons, commas] = [rows(";"), rows(",")];
   if (rows("\t") > Math.max(semicolons, commas)) return "\t";
-  if (semicolons === commas) return cells(";") >= cells(",") && semicolons > 0 ? ";" : ",";
-  return semicolons > commas ? ";" : ",";
+  if (semicolons > commas || (semicolons === commas && cells(";") >= cells(",") && semicolons > 0)) return ";";
+  if (commas > 0 && !mayCommasSeparate(lines)) {
+    throw new Unreadable(
+      "The commas of this text separate thousands, and no tabs, semicolons or commas separate its cells: copy the " +
+        "table from the web page or a spreadsheet.",
+    );
+  }
+  return ",";
 }
 
 /** Checks that each quoted cell is closed, and that no text follows its quotes. */
@@ -33,7 +50,21 @@ function checkQuotes(text: string, delimiter: string): void {
   const at = bare.search(new RegExp(`(^|${delimiter})"`, "m"));
   if (at < 0) return;
   const row = bare.slice(0, at).split(/\r\n|\r|\n/).length;
-  throw new Unreadable(`row ${row}: a quoted cell isn't closed, or something follows its quotes`);
+  const isSpaced = /^("[^"]*" )+("[^"]*")$/m.test(text);
+  const words = ": cells with blanks between them, as R's write.table has, aren't read: write.csv has commas";
+  const blanks = isSpaced ? words : "";
+  throw new Unreadable(`row ${row}: a quoted cell isn't closed, or something follows its quotes${blanks}`);
+}
+
+/** The notice on words for missing values. */
+function missingNotice(cells: readonly (readonly string[])[]): string[] {
+  const many = new Map<string, number>();
+  for (const cell of cells.flat()) {
+    const word = isMissing(cell) ? cell.trim() : "";
+    if (word) many.set(word, (many.get(word) ?? 0) + 1);
+  }
+  const words = [...many].map(([word, times]) => `'${word}' in ${counted(times, "cell")}`);
+  return words.length ? [`Missing values were taken as blanks: ${words.join("; ")}`] : [];
 }
 
 /** Cells without blanks around them, and without empty rows at the end, as a sheet. What is struck out has its row,
@@ -44,10 +75,10 @@ export function sheetOfCells(
   notices: readonly string[] = [],
   struck: ReadonlyMap<number, string> = new Map(),
 ): Sheet {
-  const trimmed = cells.map((row) => row.map((cell) => cell.trim()));
+  const trimmed = cells.map((row) => row.map(plainCell));
   const { rows: split, from, to, origins } = splitLines(trimmed);
   const became = `${counted(from, "row")} became ${counted(to, "row")}, one for each line`;
-  const said = from ? [`Cells of several lines: ${became}`] : [];
+  const said = [...missingNotice(cells), ...(from ? [`Cells of several lines: ${became}`] : [])];
   const rows = [...split];
   while (rows.length > 0 && rows[rows.length - 1]?.every((cell) => cell === "")) rows.pop();
   if (rows.length > MOST_TABLE_ROWS) {
@@ -67,12 +98,13 @@ export function sheetOfCells(
   return { rows, width, delimiter, notices: [...notices, ...said], ...(out.length ? { struck: out } : {}) };
 }
 
-/** Refuses what this page itself exports and what has no columns. */
+/** Refuses what this page and board-figures export, and what has no columns. */
 function checkKind(text: string): void {
   const lines = text.split(/\r\n|\r|\n/).filter((line) => line !== "" && !line.startsWith("#"));
-  if (/^\ufeff?# /.test(text) && /^"?scenario"?,.*majority.*,"?chair"?,/.test(lines[0] ?? "")) {
+  if (/^\ufeff?"?(scenario|reading)"?[,;\t].*majority.*[,;\t]"?chair"?[,;\t]/.test(lines[0] ?? "")) {
+    const whose = /^\ufeff?# /.test(text) ? "this page exports" : "board-study or board-figures writes";
     throw new Unreadable(
-      "This is the table of results that this page exports: it has chairs and their power, and no members. " +
+      `This is the table of results that ${whose}: it has chairs and their power, and no members. ` +
         "Open the exported script or page, or a table of members.",
     );
   }

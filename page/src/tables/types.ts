@@ -75,6 +75,8 @@ export type QuestionKind =
   | "struck" // rows that are struck out, or in which something is
   | "similar" // names of chairs that are nearly equal
   | "outside" // votes that the table leaves out
+  | "percents" // per cents that the votes of their rows don't give
+  | "counts" // a printed number of members or chairs that isn't that of the table
   | "suspended"; // words on a suspension outside of its column
 
 export interface Option {
@@ -131,6 +133,14 @@ export interface TableBase {
   readonly columns: Readonly<Record<string, string>>;
 }
 
+/** A number that was read, beside what the table prints of it; `isOff` where they differ, or it looks odd. */
+export interface Compared {
+  readonly what: string;
+  readonly read: string;
+  readonly printed: string;
+  readonly isOff: boolean;
+}
+
 /** The contents of a table. It has a base once nothing is wrong and nothing is open. */
 export interface ReadTable {
   readonly base: TableBase | null;
@@ -139,6 +149,8 @@ export interface ReadTable {
   readonly notices: readonly string[];
   /** What a row is, if it isn't a member: in words, by its number. */
   readonly roles: ReadonlyMap<number, string>;
+  /** What was read in numbers, once the table is whole. */
+  readonly compared: readonly Compared[];
 }
 
 /** A file or a text that can't be read as a table: the message is the sentence to show. */

@@ -1,4 +1,5 @@
 /** Workbooks of Excel (.xlsx) as sheets, from their unpacked parts. */
+import { raised } from "./cells";
 import { filledNotice, MOST_ROWS } from "./grid";
 import { CellCount, MOST_COLUMNS } from "./limits";
 import { NOTHING, struckIn, textOfRuns, type Text } from "./struck";
@@ -20,11 +21,10 @@ type FontRun = readonly [text: string, font: Element | undefined];
 
 /** What the cells of all sheets refer to. */
 interface Shared {
-  /** Texts by whether their cell's font is struck out: in a cell whose font isn't, and in one whose font is. */
-  readonly texts: readonly (readonly [plain: Text, struck: Text])[];
+  readonly texts: readonly (readonly FontRun[])[];
   readonly formats: readonly Format[];
-  /** Whether the font of each format is struck out. */
-  readonly struck: readonly boolean[];
+  /** The font of each format. */
+  readonly fonts: readonly (Element | undefined)[];
   /** Days between 1970 and the day 0 of the workbook's dates. */
   readonly epoch: number;
 }
@@ -43,9 +43,16 @@ function isStruck(font: Element): boolean {
   return font.all("strike").some((it) => !/^(0|false)$/.test(it.attribute("val") ?? "1"));
 }
 
-/** The text of a cell whose own font is struck out or not. */
-function textOf(runs: readonly FontRun[], isOut: boolean): Text {
-  return textOfRuns(runs.map(([text, font]) => [text, font ? isStruck(font) : isOut]));
+function isRaised(font: Element): boolean {
+  return font.all("vertAlign").some((it) => /^(super|sub)script$/.test(it.attribute("val") ?? ""));
+}
+
+/** The text of a cell with a font of its own. What is raised is a mark, unless nothing stands on the line. */
+function textOf(runs: readonly FontRun[], own: Element | undefined): Text {
+  const is = (font: Element | undefined, so: (font: Element) => boolean) => font !== undefined && so(font);
+  const isAllRaised = runs.every(([text, font = own]) => text.trim() === "" || is(font, isRaised));
+  return textOfRuns(runs.map(([text, font = own]) =>
+    [!isAllRaised && is(font, isRaised) ? raised(text) : text, is(font, isStruck)]));
 }
 
 function formatOf(id: number, custom: ReadonlyMap<number, string>): Format {
@@ -61,11 +68,11 @@ function formatsOf(styles: Element): Format[] {
   return formats.map((it) => formatOf(Number(it.attribute("numFmtId")), custom));
 }
 
-/** Whether each format of cells has a font that is struck out. */
-function struckOf(styles: Element): boolean[] {
-  const fonts = (styles.all("fonts")[0]?.all("font") ?? []).map(isStruck);
+/** The font of each format of cells. */
+function fontsOf(styles: Element): (Element | undefined)[] {
+  const fonts = styles.all("fonts")[0]?.all("font") ?? [];
   const formats = styles.all("cellXfs")[0]?.all("xf") ?? [];
-  return formats.map((it) => fonts[Number(it.attribute("fontId") ?? "0")] ?? false);
+  return formats.map((it) => fonts[Number(it.attribute("fontId") ?? "0")]);
 }
 
 /** A date as year, month and day. */
@@ -83,14 +90,14 @@ function numberText(text: string, format: Format, epoch: number): string {
   return Number.isInteger(value) && Math.abs(value) < 2 ** 53 ? String(value) : String(Number(value.toPrecision(15)));
 }
 
-function cellText(cell: Element, { texts, formats, struck, epoch }: Shared): Text {
+function cellText(cell: Element, { texts, formats, fonts, epoch }: Shared): Text {
   const style = Number(cell.attribute("s") ?? "0");
-  const isOut = struck[style] ?? false;
-  const plain = (text: string) => textOf([[text, undefined]], isOut);
+  const font = fonts[style];
+  const plain = (text: string) => textOf([[text, undefined]], font);
   const value = cell.all("v")[0]?.text() ?? "";
   switch (cell.attribute("t")) {
-    case "s": return texts[Number(value)]?.[isOut ? 1 : 0] ?? NOTHING;
-    case "inlineStr": return textOf(cell.all("is").flatMap(runsOf), isOut);
+    case "s": return textOf(texts[Number(value)] ?? [], font);
+    case "inlineStr": return textOf(cell.all("is").flatMap(runsOf), font);
     case "b": return plain(value === "1" ? "true" : "false");
     case "str":
     case "e":
@@ -153,6 +160,34 @@ function gridOf(sheet: Element, shared: Shared): Text[][] {
   return grid;
 }
 
+/** More ranges of cells than this aren't named. */
+const MOST_RANGES = 3;
+
+/** Whether a program wrote the formula of a cell and left its value to a spreadsheet. */
+function lacksValue(cell: Element): boolean {
+  const [value] = cell.all("v");
+  const isText = cell.attribute("t") === "str" && value !== undefined;
+  return cell.all("f").length > 0 && !isText && (value?.text() ?? "") === "";
+}
+
+/** Refuses a sheet with formulas that have no values. */
+function checkFormulas(sheet: Element): void {
+  const found = sheet.all("c").filter(lacksValue).map((it) => it.attribute("r") ?? "");
+  if (!found.length) return;
+  const ranges: { first: string; last: string }[] = [];
+  for (const reference of [...found].sort((one, other) => placeOf(one).column - placeOf(other).column)) {
+    const range = ranges[ranges.length - 1];
+    const [last, own] = [placeOf(range?.last ?? ""), placeOf(reference)];
+    if (range && last.column === own.column && last.row + 1 === own.row) range.last = reference;
+    else ranges.push({ first: reference, last: reference });
+  }
+  const words = ranges.slice(0, MOST_RANGES).map(({ first, last }) => (first === last ? first : `${first} to ${last}`));
+  const cells = found[0] === "" ? "Cells" : `${found.length === 1 ? "Cell" : "Cells"} ${words.join(", ")}`;
+  const more = ranges.length > MOST_RANGES ? " and others" : "";
+  throw new Unreadable(`${cells}${more} ${found.length === 1 ? "has a formula without its value" :
+    "have formulas without values"}: open the workbook in a spreadsheet, save it there, and open that file here.`);
+}
+
 /** The unpacked parts of a workbook by their paths; null for one that is larger than a table of members. */
 export type Parts = Readonly<Record<string, string | null>>;
 
@@ -169,8 +204,7 @@ function sharedOf(parts: Parts, workbook: Element): Shared {
   const [strings, styles] = [partOf(parts, `${FOLDER}sharedStrings.xml`), partOf(parts, `${FOLDER}styles.xml`)];
   const is1904 = workbook.all("workbookPr").some((it) => /^(1|true)$/.test(it.attribute("date1904") ?? ""));
   const epoch = is1904 ? -24107 : -25569;
-  const texts = strings.all("si").map(runsOf).map((it) => [textOf(it, false), textOf(it, true)] as const);
-  return { texts, formats: formatsOf(styles), struck: struckOf(styles), epoch };
+  return { texts: strings.all("si").map(runsOf), formats: formatsOf(styles), fonts: fontsOf(styles), epoch };
 }
 
 /** The path of each sheet's part by its relation. */
@@ -183,6 +217,7 @@ function targetsOf(parts: Parts): Map<string, string> {
 
 /** A sheet by its entry in the workbook and its cells. */
 function sheetOf(entry: Element, sheet: Element, shared: Shared): NamedSheet {
+  checkFormulas(sheet);
   const grid = gridOf(sheet, shared);
   const struck = struckIn(grid);
   const filled = fillMerged(grid, sheet);

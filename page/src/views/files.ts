@@ -7,7 +7,7 @@ import { scriptOf } from "../study/script";
 import { hashOf } from "../study/made";
 import { readData, type StudyData } from "../study/studyData";
 import { studyOf, type Base } from "../study/study";
-import { sheetsOfHtml } from "../tables/html";
+import { hasTable, sheetsOfHtml } from "../tables/html";
 import { checkSize } from "../tables/limits";
 import { contentsOf, type Contents, type Given, type Source } from "../tables/sources";
 import { reasonOf } from "../study/words";
@@ -117,15 +117,26 @@ async function orSay(task: Promise<void>): Promise<void> {
 const PASTED = "Pasted table";
 
 /** The name of a table that is pasted: another one than those of the study and its scenarios. */
-export function pastedName({ study: { name, scenarios } }: App): string {
+function pastedName({ study: { name, scenarios } }: App): string {
   const taken = [name, ...scenarios.map((it) => it.name)];
   const names = [PASTED, ...taken.map((_, at) => `${PASTED} ${at + 2}`)];
   return names.find((it) => !taken.includes(it)) ?? PASTED;
 }
 
-/** Reads a text, and reports why if it can't. */
-export function readText(app: App, text: string, name: string): Promise<void> {
-  return orSay(read(app, { text }).then((found) => take(app, found, name)));
+async function takePasted(app: App, text: string, html: string): Promise<void> {
+  const found = async (given: string) => take(app, await read(app, { text: given }), pastedName(app));
+  if (!hasTable(html)) return found(text);
+  try {
+    await found(`<html>${html}`);
+  } catch (why) {
+    if (why instanceof Cancelled || !text.includes("\n")) throw why;
+    await found(text);
+  }
+}
+
+/** Reads what is pasted: its table, which says more than the text does, or else its text. Reports why if it can't. */
+export function readPasted(app: App, text: string, html = ""): Promise<void> {
+  return orSay(takePasted(app, text, html));
 }
 
 function bareName(name: string): string {

@@ -3,12 +3,12 @@ import type { App } from "./app";
 import { keyboardDrag } from "./carry";
 import { byId } from "./dom";
 import { pointerDrag } from "./drag";
-import { pastedName, readFiles, readText, refusePaste } from "./files";
+import { readFiles, readPasted, refusePaste } from "./files";
 import { keys } from "./keys";
 import { notes } from "./note";
 import { fitTables } from "./paper";
 import { sheets } from "./sheets";
-import { saysMore } from "../tables/html";
+import { hasTable } from "../tables/html";
 import { VERSION } from "../study/made";
 import { withChanges } from "../study/study";
 import { openBest } from "./best";
@@ -47,17 +47,16 @@ function takeFiles(app: App): void {
     const files = [...(event.dataTransfer?.files ?? [])];
     if (files.length) void readFiles(app, files);
   });
-  const read = (text: string) => void readText(app, text, pastedName(app));
+  const read = (text: string, html: string) => void readPasted(app, text, html);
   onClick("paste", () => openPaste(read));
   document.addEventListener("paste", (event) => {
     const plain = event.clipboardData?.getData("text/plain") ?? "";
     const html = event.clipboardData?.getData("text/html") ?? "";
-    const isPlain = plain.includes("\n") && !saysMore(html);
-    if (takesText(event.target) || (!isPlain && !/<table\b/i.test(html))) return;
+    if (takesText(event.target) || (!plain.includes("\n") && !hasTable(html))) return;
     event.preventDefault();
     const open = document.querySelector("dialog[open] h2");
     if (open) refusePaste(open.textContent ?? "");
-    else read(isPlain ? plain : `<html>${html}`);
+    else read(plain, html);
   });
 }
 

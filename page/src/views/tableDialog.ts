@@ -10,7 +10,7 @@ import { isolated, memberWords } from "../study/names";
 import { studyOf, withScenario } from "../study/study";
 import { baseOf } from "../tables/base";
 import { columnName, guessedLayout, layoutWith } from "../tables/columns";
-import { saysMore } from "../tables/html";
+import { hasTable } from "../tables/html";
 import { MOST_SHOWN, MOST_SHOWN_LETTERS } from "../tables/limits";
 import type { Thousands } from "../tables/numbers";
 import { faultWords, readTable } from "../tables/read";
@@ -274,6 +274,22 @@ function previewTable(preview: Preview, read: ReadTable): HTMLElement {
   );
 }
 
+/** What was read in numbers, beside what the table prints of them. */
+function comparedTable({ compared }: ReadTable): Child {
+  if (!compared.length) return null;
+  const hasPrinted = compared.some(({ printed }) => printed !== "");
+  const rows = compared.map(({ what, read, printed, isOff }) => {
+    const look = isOff ? "text wrong" : "text";
+    return h("tr", {}, h("th", { scope: "row", class: "text" }, what), h("td", { class: look }, read),
+      hasPrinted && h("td", { class: look }, printed));
+  });
+  const heads = ["Compare with the table", "Read", ...(hasPrinted ? ["Printed in the table"] : [])];
+  const region = { class: "scroll", tabindex: 0, role: "region", "aria-label": "What was read, beside the table" };
+  return h("div", region, h("table", { id: "table-compared" },
+    h("thead", {}, h("tr", {}, heads.map((it) => h("th", { scope: "col", class: "text" }, it)))),
+    h("tbody", {}, rows)));
+}
+
 /** The summary of the table, in the scripts' sentence. */
 function wholeWords({ base }: ReadTable): string {
   if (!base) return "Not whole yet.";
@@ -366,6 +382,7 @@ function content(preview: Preview, close: () => void, again: () => void): Child 
     which,
     questions(preview, read, again),
     faultList(preview, read, again),
+    comparedTable(read),
     previewTable(preview, read),
     columnChoices(preview, again),
     many ? noticed : null,
@@ -391,8 +408,8 @@ export function openTable(app: App, source: Source): void {
   dialog.querySelector<HTMLElement>(".question.open input, #table-take:not(:disabled)")?.focus();
 }
 
-/** Asks for a table that is pasted as text. One that says more as HTML is read at once. */
-export function openPaste(read: (text: string, name: string) => void): void {
+/** Asks for a table that is pasted as text. One of a web page or a spreadsheet is read at once. */
+export function openPaste(read: (text: string, html: string) => void): void {
   let pasted = (_: ClipboardEvent): void => {};
   const dialog = openDialog("paste-dialog", "Paste a table", (close) => {
     const area = h(
@@ -401,18 +418,18 @@ export function openPaste(read: (text: string, name: string) => void): void {
         id: "paste-text", "aria-label": "Cells from a spreadsheet, a CSV, or a script", spellcheck: "false",
       },
     );
-    const act = (text = area.value) => {
+    const act = (text = area.value, html = "") => {
       close();
-      read(text, "Pasted table");
+      read(text, html);
     };
     pasted = (event) => {
-      const [html, plain] = ["text/html", "text/plain"].map((it) => event.clipboardData?.getData(it) ?? "");
-      const isMore = !area.value && saysMore(html ?? "");
-      if (event.target === area && !isMore) return;
+      const [html = "", plain = ""] = ["text/html", "text/plain"].map((it) => event.clipboardData?.getData(it) ?? "");
+      const isTable = !area.value && hasTable(html);
+      if (event.target === area && !isTable) return;
       event.preventDefault();
       event.stopPropagation();
-      if (isMore) return act(`<html>${html}`);
-      area.value += plain ?? "";
+      if (isTable) return act(plain, html);
+      area.value += plain;
       area.focus();
     };
     return [

@@ -4,7 +4,8 @@ from __future__ import annotations
 import json
 from collections.abc import Iterable, Mapping
 from dataclasses import dataclass, replace
-from typing import Any, Optional
+from pathlib import Path
+from typing import Any, Optional, Union
 
 from .amounts import BadStudy
 from .names import KINDS, OPERATIONS
@@ -99,8 +100,10 @@ def check_total(base: Base, total: Optional[int]) -> None:
         raise BadStudy(total_words(votes, total))
 
 
-def read_saved(data: bytes, *, total: Optional[int] = None) -> Saved:
-    """The study in a file. BadStudy where it has none, or where its votes have another total than a published one."""
+def read_saved(given: Union[bytes, str, Path], *, total: Optional[int] = None) -> Saved:
+    """The study in a file, by its bytes or its path. BadStudy where it has none, or where its votes have another total
+    than a published one."""
+    data = given if isinstance(given, bytes) else Path(given).read_bytes()
     text = data.decode("utf-8-sig")
     if START in text:
         text = text.partition(START)[2].partition("</script>")[0]

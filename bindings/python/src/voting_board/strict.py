@@ -13,6 +13,7 @@ from hashlib import sha256
 from pathlib import Path
 from typing import Optional, Union
 
+from .cells import BLANKS, ERRORS, FALSE, RAISED, TRUE, UNSEEN
 from .countries import CODES
 from .names import CHAIRS, COLUMNS, MEMBER_VOTES, MEMBERS
 from .registers import Register
@@ -21,7 +22,7 @@ ENCODINGS = ("utf-8", "cp1252", "latin-1", "utf-16")
 CLEANED = "open the table in board.html, which cleans it and saves a table that is read here"
 NUMBER = re.compile("0|[1-9][0-9]{0,19}")
 #: The marks of a footnote at the end of a name, and names that a total or an empty chair has.
-MARKED = re.compile(r"[*†‡§¹²³⁰-⁹]$|[(\[][0-9a-z][)\]]$|\s[0-9a-z][/)]$")
+MARKED = re.compile(rf"[*†‡§{RAISED}]$|[(\[][0-9a-z][)\]]$|\s[0-9a-z][/)]$")
 NO_MEMBER = re.compile(r"(grand |sub-?)?totals?\b|.*\btotals?$|sum( of .*)?$|none$|vacant$|[-–—]$")
 #: Names of several members together, as board.html has them too.
 _GROUPS = r"asean|brics\+?|cemac|waemu|wamu|eccu|ecb|eu-?[0-9]{0,2}|g-?[0-9]{1,2}|gcc|ldcs?|lics?|oecd|opec"
@@ -32,6 +33,11 @@ AGGREGATE = re.compile(
     rf"|(?:(?:{_SIDES}),? (?:and )?)?(?:{_PLACES})(?: and (?:the )?(?:{_PLACES}))*$|(?:south|latin) (?:asia|america)"
     r"|.*\b(?:countries|economies|monetary union|european union|euro area|euro zone|nations)$)"
 )
+ERROR = re.compile("|".join(ERRORS), re.IGNORECASE)
+#: The first bytes of files that aren't texts, and what they are.
+KINDS = {b"PK": "a workbook or another zip file", b"\xd0\xcf\x11\xe0": "a file of an old Office", b"%PDF": "a PDF"}
+#: In a table with fewer members a person sees that all votes are 0. board.html has the same.
+LEAST_MEMBERS = 10
 LETTERS = "ABCDEFGHIJKLMNOPQRSTUVWXYZ"
 #: Words that names of countries are compared without, and short forms of words, as tools/countries.py has them.
 LEFT_OUT = {"the", "of", "and", "de", "d", "republic", "rep", "kingdom", ""}
@@ -119,7 +125,7 @@ class Rows:
         self.check_chair_name(row, given)
         if len(self.problems) == before:
             chair = int(given["chair"]) if given["chair"] else None
-            suspended = given.get("suspended") == "true"
+            suspended = given.get("suspended", "").lower() in TRUE
             code, name = given.get("code", ""), given.get("name", "")
             self.found.append(StrictMember(row, code, name, int(given["votes"]), chair, suspended))
 
@@ -149,8 +155,18 @@ def problem_of(column: str, cell: str, is_saved: bool) -> str:
         is_right = not cell or (NUMBER.fullmatch(cell) and 1 <= int(cell) <= CHAIRS)
         return "" if is_right else f"isn't a whole number from 1 to {CHAIRS}, or empty"
     if column == "suspended":
-        return "" if cell in ("true", "false") else "isn't true or false"
-    return "" if is_saved else problem_of_name(column, cell)
+        return "" if cell.lower() in TRUE + FALSE else "isn't true or false"
+    return problem_of_word(cell) or ("" if is_saved else problem_of_name(column, cell))
+
+
+def problem_of_word(cell: str) -> str:
+    """What is wrong with a cell whatever the table: a word for a missing value, or a spreadsheet's error."""
+    if cell.strip() and cell.strip().strip(UNSEEN) in ("", *BLANKS):
+        return "stands for a missing value: leave the cell empty"
+    # A name may begin with a number sign; errors have no small letters behind it.
+    is_error = ERROR.fullmatch(cell) and (not cell.startswith("#") or cell == cell.upper())
+    is_truth = cell.lower() in TRUE + FALSE and (cell == cell.upper() or cell.lower() in ("true", "false"))
+    return "is a spreadsheet's error" if is_error or is_truth else ""
 
 
 def problem_of_name(column: str, cell: str) -> str:
@@ -170,6 +186,9 @@ def problem_of_name(column: str, cell: str) -> str:
 
 def text_of(data: bytes, encoding: str) -> str:
     """The text of a file."""
+    kind = next((words for start, words in KINDS.items() if data.startswith(start)), "")
+    if kind:
+        raise BadTable([f"row 1: this is {kind}, and no text"])
     try:
         return data.decode(encoding).removeprefix("\ufeff")
     except UnicodeDecodeError as why:
@@ -252,6 +271,8 @@ def doubts_of(members: Sequence[StrictMember]) -> dict[int, str]:
     for it in merged(members):
         who = repr(it.code or it.name)
         doubts.setdefault(it.row, f"{who} has no chair, below a row that has one, as in a table with merged cells")
+    if len(members) >= LEAST_MEMBERS and not any(it.votes for it in members):
+        doubts[members[0].row] = "all votes are 0, as in a workbook whose formulas no spreadsheet has counted"
     for it, what in loose(members):
         doubts.setdefault(it.row, f"{it.code or it.name!r} {what}")
     return doubts

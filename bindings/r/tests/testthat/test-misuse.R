@@ -120,7 +120,7 @@ test_that("cells of tables are refused with their rows", {
     expect_identical(why$number, 11L)
     wrong(call(cell("code", NA)), paste0("row 3: the code is NA (character)", codes_are))
     wrong(call(cell("suspended", 1)), "row 1: suspended is 0 (numeric): TRUE or FALSE")
-    wrong(call(cell("suspended", "TRUE")), "row 1: suspended is 'FALSE' (character): TRUE or FALSE")
+    wrong(call(cell("suspended", "yes")), "row 1: suspended is 'FALSE' (character): TRUE or FALSE")
     expect_error(call(cell("suspended", NA)), "row 3: suspended is NA: TRUE or FALSE", class = "board_refused")
     wrong(call(cbind(three(), chair_name = 1)), "row 1: the chair_name is 1 (numeric): a name is text")
     wrong(call(transform(three(), chair = factor(chair))), paste0("row 1: the chair is '1' (factor)", seats_are))

@@ -212,3 +212,14 @@ test_that("a register is printed and summed up", {
   expect_identical(board_chairs(r)$members[[4]], character(0))
   expect_identical(nrow(board_chairs(board_register(c(AAA = 1)))), 0L)
 })
+
+test_that("a table that board.html saved is read by read.csv, and so is one saved again", {
+  # Catches: true and false that read.csv leaves as text.
+  text <- "code,name,votes,chair,chair_name,suspended\nAAA,Alpha,40,1,Hills,true\nBBB,Beta,25,,,false\n"
+  for (it in list(text, toupper(text), sub("true", "True", sub("false", "False", text)))) {
+    table <- utils::read.csv(text = sub("^[^\n]*", "code,name,votes,chair,chair_name,suspended", it))
+    expect_identical(unname(board_members(board_register(table))$suspended), c(TRUE, FALSE))
+    table$suspended <- factor(table$suspended)
+    expect_identical(unname(board_members(board_register(table))$suspended), c(TRUE, FALSE))
+  }
+})
