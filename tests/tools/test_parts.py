@@ -155,12 +155,13 @@ def test_a_package_is_missed_by_the_parts_that_need_it(stubbed: Stubbed) -> None
     assert stubbed.ran("install", "--check", "compilers", "register")[0] == 1
 
 
-@pytest.mark.parametrize("part", ["deep", "second"])
-def test_the_deep_gate_alone_misses_coq(stubbed: Stubbed, part: str) -> None:
+@pytest.mark.parametrize("part, missing", [("deep", r".*\bcoq .*\binkscape .*"), ("second", "coq ")])
+def test_the_deep_gate_alone_misses_coq(stubbed: Stubbed, part: str, missing: str) -> None:
     # Catches: a gate that installs, or fails without, a large package that only the deep gate needs.
     assert stubbed.ran("install", "--check") == (0, "")
-    why = f"tools/install: missing packages of Debian: coq (tools/install {part} installs them)\n"
-    assert stubbed.ran("install", "--check", part) == (1, why)
+    status, said = stubbed.ran("install", "--check", part)
+    why = rf"tools/install: missing packages of Debian: {missing}\(tools/install {part} installs them\)\n"
+    assert status == 1 and re.fullmatch(why, said)
 
 
 def test_a_command_stands_for_its_package(stubbed: Stubbed) -> None:
