@@ -391,7 +391,8 @@ def test_marks(small: Page) -> None:
     assert small.text("#smallest-words").endswith(" (made here).")
     for table in ["#smallest-table", "#smallest-list"]:
         assert set(small.run(marks, f"{table} thead th")) == {""}
-    assert small.run(marks, "#size-table thead th") == ["", *["made here"] * (1 + 3 * len(MAJORITIES))]
+    assert small.text("#size-table caption").endswith(" (made here)")
+    assert small.run(marks, "#size-table thead th") == [""] * (2 + 3 * len(MAJORITIES))
     assert small.run(marks, "#size-table tfoot th") == ["made here", "counted"]
 
 

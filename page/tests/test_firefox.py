@@ -33,4 +33,6 @@ def test_firefox(oracle: Oracle) -> None:
         check_lines(fox, oracle, ["votes,XAD,318104"])
         drawn = fox.run('return document.querySelectorAll("#cards .card:has(.plot)").length;')
         asked = fox.run('return performance.getEntriesByType("resource").map((it) => it.name);')
+        # What is pasted first goes into the field.
+        assert fox.run('document.getElementById("paste").click(); return document.activeElement.id;') == "paste-text"
         assert drawn == 24 and not [it for it in asked if not it.startswith(("blob:", "data:"))], json.dumps(asked)

@@ -25,6 +25,8 @@ SAID = {
 }
 #: Questions that a person answers by a look at the table.
 ASKED = ("merged", "alternate", "which-votes")
+#: The fault of a file in which R's missing values are a spreadsheet's errors.
+FAULTS = {"-openxlsx-na.xlsx": ("chair: a spreadsheet's error",)}
 
 
 @pytest.fixture(scope="session")
@@ -75,7 +77,8 @@ def test_saved(program: str, layout: str, reader: Path, tmp_path: Path) -> None:
         if must:
             assert said.startswith("refused: ") and must in said, (name, said)
         else:
-            asked = said.startswith("asked: ") and any(it in said for it in ASKED)
+            wanted_words = next((words for part, words in FAULTS.items() if name.endswith(part)), ASKED)
+            asked = said.startswith("asked: ") and any(it in said for it in wanted_words)
             assert said == "right" or asked, (name, said)
 
 

@@ -83,10 +83,10 @@ function tableOf(looked: Looked, model: SizesModel): HTMLElement {
     `Winning, ${MAJORITY[majority].label}`, `Share, ${MAJORITY[majority].label}`,
     `Can block, ${MAJORITY[majority].label}`,
   ]);
-  const columns = ["Coalitions", ...heads].map((it) => h("th", { scope: "col", "data-mark": "made here" }, it));
+  const columns = ["Coalitions", ...heads].map((it) => h("th", { scope: "col" }, it));
   return h("div", { class: "scroll", tabindex: 0, role: "region", "aria-label": words },
     h("table", { id: "size-table" },
-      h("caption", {}, words),
+      h("caption", {}, `${words} (made here)`),
       h("thead", {}, h("tr", {}, h("th", { scope: "col" }, "Chairs"), columns)),
       h("tbody", {}, model.all.map((_, size) => sizeRow(looked, model, size))),
       h("tfoot", {}, footOf(looked, model)),

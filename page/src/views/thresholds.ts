@@ -45,10 +45,10 @@ function tableOf(app: App, all: Thresholds): HTMLElement {
   const rows = thresholdRows(all, digits);
   const majorities = [...new Set(rows.map((it) => it.majority))];
   const words = `Thresholds of ${whoWords(all.asked, all.standing)}`;
-  const heads = HEADS.map((it) => h("th", { scope: "col", "data-mark": "made here" }, it));
+  const heads = HEADS.map((it) => h("th", { scope: "col" }, it));
   return h("div", { class: "scroll preview", tabindex: 0, role: "region", "aria-label": words },
     h("table", { id: "find-table" },
-      h("caption", {}, words),
+      h("caption", {}, `${words} (made here)`),
       h("thead", {}, h("tr", {}, h("th", { scope: "col", class: "text" }, `Chair ${all.found.chair}`), heads)),
       majorities.map((it) => majorityRows(it, rows, digits)),
     ),
